@@ -1,0 +1,4 @@
+pub mod ElementLaws
+pub mod Reflection
+pub mod Meaning
+pub mod Accepted

@@ -1,0 +1,59 @@
+-- The flat row is filled cell by cell.
+use Rattle.basics.specs.Tables.{raster}
+use Rattle.basics.proofs.TableLaws.{Filling, filling-start, filling-turn, filling-end}
+use Rattle.element.specs.Cells.{cellAt, flat}
+use borrow.Author.Needs.{needs}
+use Prim.Native.Nat.{_-_, _/_, _%_}
+use mathlib.Core.Path.{refl}
+use Rattle.element.proofs.flat_cells.Statement.{statement}
+use Rattle.element.proofs.flat_cells.Tie as tie
+
+abbrev Inv-loop : tie.InvT-loop
+Inv-loop cells out₀ k₀ out k = Filling 49 (λ k. cellAt cells (k / 7) (k % 7)) k out
+
+abbrev μ-loop : tie.MeasureT-loop
+μ-loop cells out₀ k₀ out k = 49 - k
+
+loop-holds : tie.Need-loop-holds Inv-loop μ-loop
+loop-holds c = filling-start _ _ _ refl
+
+mul-out : tie.Need-mul-out Inv-loop μ-loop
+mul-out c = search needs
+
+index-1-out : tie.Need-index-1-out Inv-loop μ-loop
+index-1-out c = search needs
+
+index-2-out : tie.Need-index-2-out Inv-loop μ-loop
+index-2-out c = search needs
+
+array-write-out : tie.Need-array-write-out Inv-loop μ-loop
+array-write-out c = search needs
+
+add-k : tie.Need-add-k Inv-loop μ-loop
+add-k c = search needs
+
+loop-less : tie.Need-loop-less Inv-loop μ-loop
+loop-less c = search needs
+
+loop-again : tie.Need-loop-again Inv-loop μ-loop
+loop-again c = filling-turn 49 _ _ _ _ (c .before .before .loop .inv) (c .before .loop-test .taken) refl
+
+returns : tie.Need-returns Inv-loop μ-loop
+unfolding flat raster
+returns c = filling-end 49 _ _ _ (c .before .loop .inv) (c .loop-test .left)
+
+pub flat-cells-spec : {M : Type 1} → statement M
+flat-cells-spec =
+    tie.close
+    (tie.spec
+    Inv-loop
+    μ-loop
+    loop-holds
+    mul-out
+    index-1-out
+    index-2-out
+    array-write-out
+    add-k
+    loop-less
+    loop-again
+    returns)

@@ -1,0 +1,56 @@
+-- The seven rows are filled one by one.
+use Rattle.basics.specs.Tables.{table}
+use Rattle.basics.proofs.TableLaws.{Filling, filling-start, filling-turn, filling-end}
+use Rattle.element.specs.Cells.{sevenBySeven, unflat}
+use borrow.Author.Needs.{needs}
+use Prim.Native.Nat.{_+_, _*_, _-_}
+use mathlib.Core.Path.{refl}
+use lib.ListN.{getD}
+use Rattle.element.proofs.rows_of.Statement.{statement}
+use Rattle.element.proofs.rows_of.Tie as tie
+
+abbrev Inv-loop : tie.InvT-loop
+Inv-loop cells out₀ row₀ out row = Filling 7 (λ k. table 7 (λ col. getD cells (k * 7 + col) 0)) row out
+
+abbrev μ-loop : tie.MeasureT-loop
+μ-loop cells out₀ row₀ out row = 7 - row
+
+loop-holds : tie.Need-loop-holds Inv-loop μ-loop
+loop-holds c = filling-start _ _ _ refl
+
+flat-row-requires : tie.Need-flat-row-requires Inv-loop μ-loop
+flat-row-requires c κs = search needs
+
+mul-out : tie.Need-mul-out Inv-loop μ-loop
+mul-out c = search needs
+
+array-set-from-out : tie.Need-array-set-from-out Inv-loop μ-loop
+array-set-from-out c = search needs
+
+add-row : tie.Need-add-row Inv-loop μ-loop
+add-row c = search needs
+
+loop-less : tie.Need-loop-less Inv-loop μ-loop
+loop-less c = search needs
+
+loop-again : tie.Need-loop-again Inv-loop μ-loop
+loop-again c = filling-turn 7 _ _ _ _ (c .before .before .loop .inv) (c .before .loop-test .taken) (c .flat-row .ensures)
+
+returns : tie.Need-returns Inv-loop μ-loop
+unfolding unflat sevenBySeven
+returns c = filling-end 7 _ _ _ (c .before .loop .inv) (c .loop-test .left)
+
+pub rows-of-spec : {M : Type 1} → statement M
+rows-of-spec =
+    tie.close
+    (tie.spec
+    Inv-loop
+    μ-loop
+    loop-holds
+    flat-row-requires
+    mul-out
+    array-set-from-out
+    add-row
+    loop-less
+    loop-again
+    returns)

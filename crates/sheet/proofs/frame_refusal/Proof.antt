@@ -1,0 +1,25 @@
+-- Each answer follows from the two sides' tests.
+use Rattle.sheet.proofs.FrameLaws.{refuse-width, refuse-height, accept-frame}
+use borrow.Author.Needs.{needs}
+use mathlib.Core.Path.{sym, _∙_}
+use Rattle.sheet.proofs.frame_refusal.Statement.{statement}
+use Rattle.sheet.proofs.frame_refusal.Tie as tie
+
+is-side-out-requires : tie.Need-is-side-out-requires
+is-side-out-requires c κs = search needs
+
+returns : tie.Need-returns
+returns c = refuse-width (c .before .before .args .width) (c .before .before .args .height) (sym (c .before .is-side-out .ensures) ∙ c .if1 .taken)
+
+is-side-out-requires-2 : tie.Need-is-side-out-requires-2
+is-side-out-requires-2 c κs = search needs
+
+returns-2 : tie.Need-returns-2
+returns-2 c = refuse-height (c .before .before .before .before .args .width) (c .before .before .before .before .args .height) (sym (c .before .before .before .is-side-out .ensures) ∙ c .before .before .if1 .left) (sym (c .before .is-side-out2 .ensures) ∙ c .if2 .taken)
+
+returns-3 : tie.Need-returns-3
+returns-3 c = accept-frame (c .before .before .before .before .args .width) (c .before .before .before .before .args .height) (sym (c .before .before .before .is-side-out .ensures) ∙ c .before .before .if1 .left) (sym (c .before .is-side-out2 .ensures) ∙ c .if2 .left)
+
+pub frame-refusal-spec : {M : Type 1} → statement M
+frame-refusal-spec =
+    tie.close (tie.spec is-side-out-requires returns is-side-out-requires-2 returns-2 returns-3)
