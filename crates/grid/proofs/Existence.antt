@@ -1,40 +1,30 @@
 -- Every level exists, for every sheet and every element that has the centre and another point.
 -- A largest level exists since n steps along that other point lead out of the frame once n reaches the larger side.
-use mathlib.Core.Path.{_≡_, refl, sym, _∙_, ap, ap₂, subst}
+use mathlib.Core.Path.{_≡_, subst}
 use mathlib.Core.Logic.{_≢_, _⊎_, inl, inr}
 use Prim.Native.Nat.{ℕ, zero, suc, _≤_, _<_, max}
-use native.Mathlib.Decide.{ℕ-discrete, decLe}
+use native.Mathlib.Decide.{ℕ-discrete, decLe, decLt}
 use native.Mathlib.Omega.{arith}
-use lib.IntN.{ℤ, pos, _+ℤ_, ℤ-discrete}
-use Rattle.grid.specs.Points.{Point, at, origin, _⊕_}
+use Rattle.grid.specs.Points.{Point, origin, _⊕_}
 use Rattle.grid.specs.Sets.{PointSet, eroded, dilated, opened, closed, _⊆_}
 use Rattle.grid.specs.Levels.{IsLast, IsFirst, IsErosionLevel, IsOpeningLevel, IsDilationLevel, IsClosingLevel}
 use Rattle.grid.specs.Figures.{frame, figure, element}
 use Rattle.grid.proofs.PointLaws.{⊕-origin}
-use Rattle.grid.proofs.SetLaws.{fold-origin}
-use Rattle.grid.proofs.ReachLaws.{figure-in, times, times-fold, times-far}
+use Rattle.grid.proofs.SetLaws.{fold-origin, eroded-shrinks}
+use Rattle.grid.proofs.ReachLaws.{figure-in, times, times-fold, leaves}
 use Rattle.grid.proofs.Searches.{eroded-decided, dilated-decided, opened-decided, closed-decided, figure-decided, element-searched}
 
 module _ (width height : ℕ) (A K : PointSet) (inside : A ⊆ frame width height) (b : Point) (kb : K b) (ne : b ≢ origin) where
   -- a size that erosion or opening holds anywhere is below the larger side
   pub eroded-bound : K origin → (n : ℕ) (x : Point) → eroded A K n x → n < max width height
-  eroded-bound o n x h = go (inside x (subst A (⊕-origin x) (h origin (fold-origin K o n)))) (inside (x ⊕ times n b) (h (times n b) (times-fold K b kb n))) (ℤ-discrete (b .row) (pos 0))
+  eroded-bound o n x h = go (decLt n (max width height))
     where
-      -- from place u to place v of a side, along a coordinate
-      along : (coord : Point → ℤ) → coord origin ≡ pos 0 → ((p q : Point) → coord (p ⊕ q) ≡ coord p +ℤ coord q) → coord b ≢ pos 0 → (u v : ℕ) → coord x ≡ pos u → coord (x ⊕ times n b) ≡ pos v → n ≤ max u v
-      along coord null add m u v e f = times-far coord null add b m n u v (ap (λ z. z +ℤ coord (times n b)) (sym e) ∙ sym (add x (times n b)) ∙ f)
-
-      go : frame width height x → frame width height (x ⊕ times n b) → Dec (b .row ≡ pos 0) → n < max width height
-      go p q (no m) =
-          let l = along (λ z. z .row) refl (λ s t. refl) m (p .0) (q .0) (ap (λ z. z .row) (p .4)) (ap (λ z. z .row) (q .4)) in
-          let a = p .2 in
-          let c = q .2 in
-          omega arith
-      go p q (yes e) =
-          let l = along (λ z. z .col) refl (λ s t. refl) (λ f. ne (ap₂ at e f)) (p .1) (q .1) (ap (λ z. z .col) (p .4)) (ap (λ z. z .col) (q .4)) in
-          let a = p .3 in
-          let c = q .3 in
-          omega arith
+      go : Dec (n < max width height) → n < max width height
+      go (yes l) = l
+      go (no f) =
+          let m = max width height in
+          let g = eroded-shrinks A K o m n (omega arith) x h in
+          absurd (leaves width height b x ne (inside x (subst A (⊕-origin x) (h origin (fold-origin K o n)))) (inside (x ⊕ times m b) (g (times m b) (times-fold K b kb m))))
 
   pub opened-bound : K origin → (n : ℕ) (x : Point) → opened A K n x → n < max width height
   opened-bound o n x h = eroded-bound o n (h .0) (h .2)

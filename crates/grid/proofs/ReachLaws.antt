@@ -6,7 +6,7 @@ use mathlib.Core.Bool.{Bool, true, false, cond}
 use Prim.Native.Nat.{ℕ, zero, suc, _+_, _*_, _-_, _%_, _≤_, _<_, max}
 use native.Mathlib.Omega.{arith}
 use lib.Dec.{ltb}
-use lib.IntN.{ℤ, pos, negsuc, negℤ, _+ℤ_, natAbs, +ℤ-comm, negℤ-+ℤ, -ℤ-+ℤ-cancel}
+use lib.IntN.{ℤ, pos, negsuc, negℤ, _+ℤ_, natAbs, ℤ-discrete, +ℤ-comm, negℤ-+ℤ, -ℤ-+ℤ-cancel}
 use Rattle.grid.specs.Points.{Point, at, origin, _⊕_}
 use Rattle.grid.specs.Sets.{PointSet, fold, _⊆_}
 use Rattle.grid.specs.Figures.{frame, figure, reach, element}
@@ -69,7 +69,7 @@ module _ (coord : Point → ℤ) (null : coord origin ≡ pos 0) (add : (p q : P
   backward c e zero = (0, omega arith, null)
   backward c e (suc n) = let (m, l, f) = backward c e n in (suc c + m, omega arith, add b (times n b) ∙ ap₂ _+ℤ_ e f ∙ sym (negℤ-+ℤ (pos (suc c)) (pos m)))
 
-  pub times-far : coord b ≢ pos 0 → (n u v : ℕ) → pos u +ℤ coord (times n b) ≡ pos v → n ≤ max u v
+  times-far : coord b ≢ pos 0 → (n u v : ℕ) → pos u +ℤ coord (times n b) ≡ pos v → n ≤ max u v
   times-far ne n u v e = signs (coord b) refl
     where
       signs : (z : ℤ) → coord b ≡ z → n ≤ max u v
@@ -82,3 +82,17 @@ module _ (coord : Point → ℤ) (null : coord origin ≡ pos 0) (add : (p q : P
           let (m, l, g) = backward c f n in
           let h : u ≡ v + m = pos-inj (sym (-ℤ-+ℤ-cancel (pos u) (pos m)) ∙ ap (λ z. z +ℤ pos m) (ap (λ z. pos u +ℤ z) (sym g) ∙ e)) in
           omega arith
+
+-- as many steps as the larger side, by a point other than the origin, lead out of a frame
+pub leaves : (width height : ℕ) (b x : Point) → b ≢ origin → frame width height x → ¬ frame width height (x ⊕ times (max width height) b)
+leaves width height b x ne (r, c, a, d, e) (r′, c′, a′, d′, e′) = cases (ℤ-discrete (b .row) (pos 0))
+  where
+    n : ℕ
+    n = max width height
+
+    end : at (pos r) (pos c) ⊕ times n b ≡ at (pos r′) (pos c′)
+    end = ap (λ p. p ⊕ times n b) (sym e) ∙ e′
+
+    cases : Dec (b .row ≡ pos 0) → ⊥
+    cases (no f) = let l = times-far (λ p. p .row) refl (λ p q. refl) b f n r r′ (ap (λ p. p .row) end) in omega arith
+    cases (yes f) = let l = times-far (λ p. p .col) refl (λ p q. refl) b (λ h. ne (ap₂ at f h)) n c c′ (ap (λ p. p .col) end) in omega arith

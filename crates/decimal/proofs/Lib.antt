@@ -1,0 +1,3 @@
+pub mod NumberLaws
+pub mod LoopLaws
+pub mod NumberExamples

@@ -1,0 +1,59 @@
+-- The run from here on, with what was read, is worth the same as the whole run, up to the limit.
+use Rattle.decimal.proofs.LoopLaws.{Reading, reading-start, reading-turn, reading-stop, reading-end}
+use borrow.Author.Tests.{not-true, not-false}
+use borrow.Author.Needs.{needs}
+use native.Mathlib.Omega.{arith}
+use Prim.Native.Nat.{_-_}
+use mathlib.Core.Path.{sym, _∙_}
+use lib.ListN.{length}
+use Rattle.decimal.proofs.read_number.Statement.{statement}
+use Rattle.decimal.proofs.read_number.Tie as tie
+
+abbrev Inv-loop : tie.InvT-loop
+Inv-loop file at limit sum₀ i₀ sum i = Reading file at limit sum i
+
+abbrev μ-loop : tie.MeasureT-loop
+μ-loop file at limit sum₀ i₀ sum i = length file - i
+
+loop-holds : tie.Need-loop-holds Inv-loop μ-loop
+loop-holds c = reading-start (c .before .args .file .now) (c .before .args .at) (c .before .args .limit) (c .before .pre .0)
+
+shared-slice-read-byte : tie.Need-shared-slice-read-byte Inv-loop μ-loop
+shared-slice-read-byte c = search needs
+
+is-digit-requires : tie.Need-is-digit-requires Inv-loop μ-loop
+is-digit-requires c κs = search needs
+
+returns : tie.Need-returns Inv-loop μ-loop
+returns c = reading-stop (c .before .before .before .before .loop .inv) (c .before .before .before .loop-test .taken) (sym (c .before .is-digit .ensures) ∙ not-true _ (c .if1 .taken))
+
+read-on-requires : tie.Need-read-on-requires Inv-loop μ-loop
+read-on-requires c κs = (c .before .before .before .before .loop .inv .small, (omega arith, sym (c .before .is-digit .ensures) ∙ not-false _ (c .if1 .left)))
+
+add-i : tie.Need-add-i Inv-loop μ-loop
+add-i c = search needs
+
+loop-less : tie.Need-loop-less Inv-loop μ-loop
+loop-less c = omega arith
+
+loop-again : tie.Need-loop-again Inv-loop μ-loop
+loop-again c = reading-turn (c .before .before .before .before .before .loop .inv) (c .before .before .before .before .loop-test .taken) (sym (c .before .before .is-digit .ensures) ∙ not-false _ (c .before .if1 .left)) (c .read-on .result) (c .read-on .ensures)
+
+returns-2 : tie.Need-returns-2 Inv-loop μ-loop
+returns-2 c = reading-end (c .before .loop .inv) (c .loop-test .left)
+
+pub read-number-spec : {M : Type 1} → statement M
+read-number-spec =
+    tie.close
+    (tie.spec
+    Inv-loop
+    μ-loop
+    loop-holds
+    shared-slice-read-byte
+    is-digit-requires
+    returns
+    read-on-requires
+    add-i
+    loop-less
+    loop-again
+    returns-2)

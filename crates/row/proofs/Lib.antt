@@ -1,0 +1,5 @@
+pub mod Pass
+pub mod Columns
+pub mod Least
+pub mod Own
+pub mod Whole

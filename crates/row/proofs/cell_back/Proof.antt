@@ -1,0 +1,56 @@
+-- By the two directions: three columns either way of the centre stay in the element's own row.
+use borrow.Author.Needs.{needs}
+use native.Mathlib.Omega.{arith}
+use Prim.Native.Nat.{_+_, _-_, _/_, _%_}
+use mathlib.Core.Path.{_≡_}
+use Rattle.row.specs.RowRule.{cellNumber}
+use Rattle.row.specs.Passes.{cellBack}
+use Rattle.row.proofs.cell_back.Statement.{statement}
+use Rattle.row.proofs.cell_back.Tie as tie
+
+add-result : tie.Need-add-result
+add-result c = search needs
+
+index-1-result : tie.Need-index-1-result
+index-1-result c = search needs
+
+index-2-result : tie.Need-index-2-result
+index-2-result c = search needs
+
+sub-result : tie.Need-sub-result
+sub-result c = search needs
+
+index-1-result-2 : tie.Need-index-1-result-2
+index-1-result-2 c = search needs
+
+index-2-result-2 : tie.Need-index-2-result-2
+index-2-result-2 c = search needs
+
+returns : tie.Need-returns
+unfolding cellNumber cellBack
+returns c =
+    let d = c .before .before .args .d in
+    let r : (24 + d) / 7 ≡ 3 = omega arith in
+    let k : (24 + d) % 7 ≡ 3 + d = omega arith in
+    rw (c .before .if1 .taken, r, k)
+
+returns-2 : tie.Need-returns-2
+unfolding cellNumber cellBack
+returns-2 c =
+    let d = c .before .before .args .d in
+    let r : (24 - d) / 7 ≡ 3 = omega arith in
+    let k : (24 - d) % 7 ≡ 3 - d = omega arith in
+    rw (c .before .if1 .left, r, k)
+
+pub cell-back-spec : {M : Type 1} → statement M
+cell-back-spec =
+    tie.close
+    (tie.spec
+    add-result
+    index-1-result
+    index-2-result
+    sub-result
+    index-1-result-2
+    index-2-result-2
+    returns
+    returns-2)

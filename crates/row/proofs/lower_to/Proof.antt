@@ -1,0 +1,61 @@
+-- The loop's invariant: the first i levels have had their pass.
+use borrow.Author.Needs.{needs}
+use native.Mathlib.Omega.{arith}
+use Prim.Native.Nat.{_-_, _≤_}
+use mathlib.Core.Path.{_≡_}
+use Rattle.row.specs.Passes.{Pass}
+use Rattle.row.proofs.Pass.{pass-start, pass-turn}
+use Rattle.row.proofs.lower_to.Statement.{statement}
+use Rattle.row.proofs.lower_to.Tie as tie
+
+abbrev Inv-loop : tie.InvT-loop
+Inv-loop part₀ at n level i₀ part i = (i ≤ n) × Pass at i (λ j. level) part₀ part
+
+abbrev μ-loop : tie.MeasureT-loop
+μ-loop part₀ at n level i₀ part i = n - i
+
+loop-holds : tie.Need-loop-holds Inv-loop μ-loop
+loop-holds c = (search needs, pass-start _ _ _)
+
+add-lower : tie.Need-add-lower Inv-loop μ-loop
+add-lower c = search needs
+
+lower-requires : tie.Need-lower-requires Inv-loop μ-loop
+lower-requires c κs = search needs
+
+add-i : tie.Need-add-i Inv-loop μ-loop
+add-i c = search needs
+
+loop-less : tie.Need-loop-less Inv-loop μ-loop
+loop-less c = search needs
+
+loop-again : tie.Need-loop-again Inv-loop μ-loop
+loop-again c =
+    let at-loop = c .before .before .before .before .before in
+    let a = at-loop .before .before .args in
+    let l = at-loop .loop in
+    let low = c .before .before .lower in
+    (omega arith, pass-turn (a .at) _ (a .part .now) (l .i) (l .part) (low .last .0) (omega arith) (low .ensures) (l .inv .1))
+
+same-length : tie.Need-same-length Inv-loop μ-loop
+same-length c = search needs
+
+returns : tie.Need-returns Inv-loop μ-loop
+returns c =
+    let q : c .before .before .before .args .n ≡ c .before .loop .i = omega arith in
+    rw q (c .before .loop .inv .1)
+
+pub lower-to-spec : {M : Type 1} → statement M
+lower-to-spec =
+    tie.close
+    (tie.spec
+    Inv-loop
+    μ-loop
+    loop-holds
+    add-lower
+    lower-requires
+    add-i
+    loop-less
+    loop-again
+    same-length
+    returns)

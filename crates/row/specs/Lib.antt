@@ -1,0 +1,2 @@
+pub mod RowRule
+pub mod Passes

@@ -1,0 +1,4 @@
+pub mod Records
+pub mod Starting
+pub mod Continuing
+pub mod Pictures

@@ -1,0 +1,13 @@
+// Runs: starting, continuing, collecting and thresholding erosions and dilations.
+ghost use mathlib.Core.Path.{_≡_};
+
+// A run's record. Kind 1 is an erosion, 2 a dilation; the cap of an erosion is 0; the cells are the element's 49 in one flat row.
+pub struct Record {
+    pub kind: u8,
+    pub width: usize,
+    pub height: usize,
+    pub cap: usize,
+    pub side: usize,
+    pub rows: usize,
+    pub cells: [u8; 49],
+}

@@ -1,0 +1,62 @@
+-- The part that is lent is an area of its own; the window law carries its row to the whole.
+use borrow.Rule.Slice.PartMut.{same-len-mid}
+use Rattle.row.specs.RowRule.{rowRule}
+use Rattle.scan.specs.Scan.{area}
+use Rattle.scan.proofs.Windows.{start-place, part-size, place-small, row-of-part, lent-part}
+use borrow.Author.Needs.{needs}
+use native.Mathlib.Omega.{arith}
+use Prim.Native.Nat.{_*_, _-_, _<_}
+use mathlib.Core.Path.{sym, _∙_}
+use lib.ListN.{length}
+use Rattle.scan.proofs.row_in_part.Statement.{statement}
+use Rattle.scan.proofs.row_in_part.Tie as tie
+
+mul-at : tie.Need-mul-at
+mul-at c = let s = place-small (c .before .args .width) (c .before .args .height) (c .before .args .start) (c .before .args .levels .now) (c .before .pre .0) (let l : c .before .args .start < c .before .args .height = omega arith in l) in omega arith
+
+mul-row-rule : tie.Need-mul-row-rule
+mul-row-rule c = let s = place-small (c .before .args .width) (c .before .args .height) (c .before .args .start) (c .before .args .levels .now) (c .before .pre .0) (let l : c .before .args .start < c .before .args .height = omega arith in l) in omega arith
+
+sub-row-rule : tie.Need-sub-row-rule
+sub-row-rule c = let s = start-place (c .before .args .width) (c .before .args .height) (c .before .args .start) (c .before .args .levels .now) (c .before .pre .0) (let l : c .before .args .start < c .before .args .height = omega arith in l) in omega arith
+
+part-row-rule-start : tie.Need-part-row-rule-start
+part-row-rule-start c = let s = start-place (c .before .args .width) (c .before .args .height) (c .before .args .start) (c .before .args .levels .now) (c .before .pre .0) (let l : c .before .args .start < c .before .args .height = omega arith in l) in omega arith
+
+part-row-rule-end : tie.Need-part-row-rule-end
+part-row-rule-end c = search needs
+
+sub-row-rule-2 : tie.Need-sub-row-rule-2
+sub-row-rule-2 c = search needs
+
+sub-row-rule-3 : tie.Need-sub-row-rule-3
+sub-row-rule-3 c = search needs
+
+row-rule-requires : tie.Need-row-rule-requires
+row-rule-requires c κs =
+    let h = c .before .before .pre .0 .high in
+    (part-size (c .before .before .args .width) (c .before .before .args .height) (c .before .before .args .start) (c .before .before .args .levels .now) (c .before .before .pre .0) (let l : c .before .before .args .start < c .before .before .args .height = omega arith in l), (omega arith, (c .before .before .pre .0 .wide .1, omega arith)))
+
+same-length : tie.Need-same-length
+same-length c = same-len-mid (c .before .before .before .before .before .args .start * c .before .before .before .before .before .args .width) (length (c .before .before .before .before .before .args .levels .now) - c .before .before .before .before .before .args .start * c .before .before .before .before .before .args .width) (c .before .before .before .before .before .args .levels .now) (c .before .before .row-rule .last .0) (c .before .before .row-rule .kept .0)
+
+returns : tie.Need-returns
+returns c =
+    lent-part (c .before .before .before .before .before .args .start * c .before .before .before .before .before .args .width) (c .before .before .before .before .before .args .levels .now) (c .before .before .row-rule .last .0)
+    (rowRule (area (c .before .before .before .before .before .args .width) (c .before .before .before .before .before .args .height - c .before .before .before .before .before .args .start) (c .before .before .before .before .before .args .beyond) (c .before .before .before .before .before .args .cells)) (c .before .before .before .before .before .args .upward) (c .before .before .before .before .before .args .row - c .before .before .before .before .before .args .start)) (c .before .before .row-rule .ensures)
+    ∙ sym (row-of-part (c .before .before .before .before .before .args .width) (c .before .before .before .before .before .args .height) (c .before .before .before .before .before .args .beyond) (c .before .before .before .before .before .args .cells) (c .before .before .before .before .before .args .upward) (c .before .before .before .before .before .args .start) (c .before .before .before .before .before .args .row) (c .before .before .before .before .before .args .levels .now) (c .before .before .before .before .before .pre .0) (c .before .before .before .before .before .pre .1 .0) (c .before .before .before .before .before .pre .1 .1 .0) (c .before .before .before .before .before .pre .1 .1 .1))
+
+pub row-in-part-spec : {M : Type 1} → statement M
+row-in-part-spec =
+    tie.close
+    (tie.spec
+    mul-at
+    mul-row-rule
+    sub-row-rule
+    part-row-rule-start
+    part-row-rule-end
+    sub-row-rule-2
+    sub-row-rule-3
+    row-rule-requires
+    same-length
+    returns)

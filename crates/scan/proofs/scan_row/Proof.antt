@@ -1,0 +1,61 @@
+-- Where document 01's parts begin, every partner met is in the part.
+use Rattle.scan.specs.Scan.{area}
+use Rattle.scan.proofs.Windows.{up-within, down-within}
+use Rattle.scan.proofs.ScanLaws.{row-down, row-up}
+use borrow.Author.Needs.{needs}
+use native.Mathlib.Omega.{arith}
+use mathlib.Core.Path.{refl, sym, _∙_}
+use Rattle.scan.proofs.scan_row.Statement.{statement}
+use Rattle.scan.proofs.scan_row.Tie as tie
+
+lesser-requires : tie.Need-lesser-requires
+lesser-requires c κs = search needs
+
+sub-start : tie.Need-sub-start
+sub-start c = search needs
+
+row-in-part-requires : tie.Need-row-in-part-requires
+row-in-part-requires c κs =
+    let e = c .before .lesser .ensures in
+    (c .before .before .before .before .pre .0, (omega arith, (c .before .before .if1 .taken, rw e (down-within (c .before .before .before .before .args .reach) (c .before .before .before .before .args .done) (c .before .before .before .before .args .cells) (c .before .before .before .before .pre .1 .1)))))
+
+same-length : tie.Need-same-length
+same-length c = search needs
+
+returns : tie.Need-returns
+returns c = c .before .before .row-in-part .ensures ∙ sym (row-down (area (c .before .before .before .before .before .before .before .args .width) (c .before .before .before .before .before .before .before .args .height) (c .before .before .before .before .before .before .before .args .beyond) (c .before .before .before .before .before .before .before .args .cells)) (c .before .before .before .before .before .before .before .args .done) (c .before .before .before .before .before .before .before .args .levels .now) (c .before .before .before .before .before .if1 .taken))
+
+add-row : tie.Need-add-row
+add-row c = search needs
+
+sub-row : tie.Need-sub-row
+sub-row c = search needs
+
+sub-row-2 : tie.Need-sub-row-2
+sub-row-2 c = search needs
+
+row-in-part-requires-2 : tie.Need-row-in-part-requires-2
+row-in-part-requires-2 c κs =
+    (c .before .before .before .pre .0, (omega arith, (omega arith, up-within _ _)))
+
+same-length-2 : tie.Need-same-length-2
+same-length-2 c = search needs
+
+returns-2 : tie.Need-returns-2
+returns-2 c = c .before .before .row-in-part2 .ensures ∙ sym (row-up (area (c .before .before .before .before .before .before .args .width) (c .before .before .before .before .before .before .args .height) (c .before .before .before .before .before .before .args .beyond) (c .before .before .before .before .before .before .args .cells)) (c .before .before .before .before .before .before .args .done) _ (c .before .before .before .before .before .before .args .levels .now) (c .before .before .before .before .if1 .left) refl)
+
+pub scan-row-spec : {M : Type 1} → statement M
+scan-row-spec =
+    tie.close
+    (tie.spec
+    lesser-requires
+    sub-start
+    row-in-part-requires
+    same-length
+    returns
+    add-row
+    sub-row
+    sub-row-2
+    row-in-part-requires-2
+    same-length-2
+    returns-2)
