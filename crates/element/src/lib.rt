@@ -10,7 +10,7 @@ ghost use Rattle.element.specs.Elements.{isSide, anyAboveOne, countSet, 
 ghost use Rattle.element.specs.Cells.{centred, centredCell, turned, flat, unflat};
 ghost use Rattle.element.specs.Reflect.{reflectedBytes, Reflects};
 
-fn is_side(side: usize) -> bool
+pub fn is_side(side: usize) -> bool
     ensures { λ r. ⌜ r ≡ isSide side ⌝ }
 {
     if side == 1 {
@@ -25,7 +25,7 @@ fn is_side(side: usize) -> bool
     side == 7
 }
 
-fn any_above_one(bytes: &[u8]) -> bool
+pub fn any_above_one(bytes: &[u8]) -> bool
     ensures { λ r. ⌜ r ≡ anyAboveOne (now (bytes .entry)) ⌝ }
 {
     let mut i = 0;
@@ -48,7 +48,7 @@ fn one_if_set(byte: u8) -> usize
     1
 }
 
-fn count_set(bytes: &[u8]) -> usize
+pub fn count_set(bytes: &[u8]) -> usize
     ensures { λ r. ⌜ r ≡ countSet (now (bytes .entry)) ⌝ }
 {
     let mut count = 0;

@@ -47,10 +47,13 @@ cellsOf r = cond (isErosion r) (unflat (r .cells)) (turned (unflat (r .cells)))
 abbrev pub areaOf : Record → Area
 areaOf r = area (areaWidth r) (areaHeight r) (beyondOf r) (cellsOf r)
 
--- a cell outside the side's square is set
+-- cell k of the 49 is set outside the side's square; one of the cells from k on is
+unfoldable pub outside : ℕ → ℕ → ℕ → Bool
+outside side cell k = not (eqb cell 0) && not (isHeld side (k / 7) && isHeld side (k % 7))
+
 unfoldable pub anyOutside : ℕ → List ℕ → ℕ → Bool
 anyOutside side [] k = false
-anyOutside side (cell ∷ rest) k = (not (isHeld side (k / 7) && isHeld side (k % 7)) && not (eqb cell 0)) || anyOutside side rest (k + 1)
+anyOutside side (cell ∷ rest) k = outside side cell k || anyOutside side rest (k + 1)
 
 -- the record is none that a start could give, rows done aside (refusal 1 asks for the rows too)
 unfoldable pub elementForeign : ℕ → List ℕ → Bool

@@ -13,7 +13,7 @@ pub fn row_bytes(width: usize) -> usize
     (width + 7) / 8
 }
 
-fn is_side_out(side: usize) -> bool
+pub fn is_side_out(side: usize) -> bool
     ensures { λ r. ⌜ r ≡ isSideOut side ⌝ }
 {
     if side == 0 {

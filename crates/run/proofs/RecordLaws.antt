@@ -1,0 +1,212 @@
+-- What the tests on a record decide, and what a sound record is: everything that the code and the theorems need of it.
+use Prim.Native.Nat.{ℕ, _+_, _-_, _/_, _%_, _≤_, _<_}
+use native.Mathlib.Nat.{mul-le-mul, zero-mul}
+use native.Mathlib.Numerals.{add-one}
+use native.Mathlib.Omega.{arith}
+use mathlib.Core.Path.{_≡_, refl, ap, _∙_}
+use mathlib.Core.Bool.{Bool, true, false, not, cond, _||_, true≢false}
+use mathlib.Core.Logic.{_≢_, _⊎_, inl, inr}
+use mathlib.Core.List.{List, _∷_}
+use lib.Dec.{eqb, ltb}
+use lib.ListN.{length, getD, drop, drop-of-length-le}
+use lib.Seq.{drop-cons}
+use borrow.Author.Tests.{lt-ltb, le-ltb, le-leb, lt-leb, eq-eqb, ne-eqb, eqb-true, eqb-false, ltb-false, not-false}
+use Rattle.grid.specs.Figures.{reach}
+use Rattle.element.specs.Elements.{isSide, anyAboveOne, countSet}
+use Rattle.element.specs.Cells.{isHeld}
+use Rattle.element.proofs.ElementLaws.{side-bounds}
+use Rattle.sheet.specs.Sheets.{isSideOut}
+use Rattle.sheet.proofs.FrameLaws.{side-in}
+use Rattle.run.specs.declared.Record.{Record}
+use Rattle.run.specs.Records.{marginOf, margin, areaWidth, areaHeight, due, outside, anyOutside, elementForeign, capForeign, foreign, recordBad}
+
+-- a disjunction that is false
+pub neither : (a b : Bool) → a || b ≡ false → (a ≡ false) × (b ≡ false)
+neither false b e = (refl, e)
+neither true b e = absurd (true≢false e)
+
+-- places of the seven
+pub held-before : (side p : ℕ) → p < 3 - reach side → false ≡ isHeld side p
+unfolding isHeld
+held-before side p l = rw (lt-leb (3 - reach side) p l)
+
+pub held-from : (side p : ℕ) → 3 - reach side ≤ p → ltb p (3 - reach side + side) ≡ isHeld side p
+unfolding isHeld
+held-from side p l = rw (le-leb (3 - reach side) p l)
+
+module _ (side cell k : ℕ) where
+  pub outside-unset : cell ≡ 0 → false ≡ outside side cell k
+  unfolding outside
+  outside-unset e = rw (eq-eqb cell 0 e)
+
+  pub outside-row : cell ≢ 0 → isHeld side (k / 7) ≡ false → true ≡ outside side cell k
+  unfolding outside
+  outside-row n e = rw (ne-eqb cell 0 n, e)
+
+  pub outside-column : cell ≢ 0 → isHeld side (k / 7) ≡ true → not (isHeld side (k % 7)) ≡ outside side cell k
+  unfolding outside
+  outside-column n e = rw (ne-eqb cell 0 n, e)
+
+-- the cells from k on
+module _ (side : ℕ) (cells : List ℕ) (k : ℕ) where
+  next : k < length cells → drop k cells ≡ getD cells k 0 ∷ drop (k + 1) cells
+  next l = rw (add-one, drop-cons cells k 0)
+
+  pub outside-found : k < length cells → outside side (getD cells k 0) k ≡ true → anyOutside side (drop k cells) k ≡ true
+  unfolding anyOutside
+  outside-found l e = rw (next l, e)
+
+  pub outside-passed : k < length cells → outside side (getD cells k 0) k ≡ false → anyOutside side (drop k cells) k ≡ anyOutside side (drop (k + 1) cells) (k + 1)
+  unfolding anyOutside
+  outside-passed l e = rw (next l, e)
+
+  pub outside-end : length cells ≤ k → anyOutside side (drop k cells) k ≡ false
+  unfolding anyOutside
+  outside-end l = rw (drop-of-length-le cells l)
+
+-- the answers on an element
+module _ (side : ℕ) (cells : List ℕ) where
+  pub element-side : isSide side ≡ false → true ≡ elementForeign side cells
+  unfolding elementForeign
+  element-side e = rw e
+
+  module _ (a : isSide side ≡ true) where
+    pub element-byte : anyAboveOne cells ≡ true → true ≡ elementForeign side cells
+    unfolding elementForeign
+    element-byte b = rw (a, b)
+
+    module _ (b : anyAboveOne cells ≡ false) where
+      pub element-outside : anyOutside side cells 0 ≡ true → true ≡ elementForeign side cells
+      unfolding elementForeign
+      element-outside c = rw (a, b, c)
+
+      module _ (c : anyOutside side cells 0 ≡ false) where
+        pub element-centre : getD cells 24 0 ≡ 0 → true ≡ elementForeign side cells
+        unfolding elementForeign
+        element-centre d = rw (a, b, c, eq-eqb (getD cells 24 0) 0 d)
+
+        pub element-others : getD cells 24 0 ≢ 0 → (n : ℕ) → n ≡ countSet cells → eqb n 1 ≡ elementForeign side cells
+        unfolding elementForeign
+        element-others d n e = rw (a, b, c, ne-eqb (getD cells 24 0) 0 d, e)
+
+-- an element that some start takes has a side
+pub taken-side : (side : ℕ) (cells : List ℕ) → elementForeign side cells ≡ false → isSide side ≡ true
+unfolding elementForeign
+taken-side side cells e = go (isSide side) refl e
+  where
+    go : (t : Bool) → isSide side ≡ t → not t || anyAboveOne cells || anyOutside side cells 0 || eqb (getD cells 24 0) 0 || eqb (countSet cells) 1 ≡ false → isSide side ≡ true
+    go true p q = p
+    go false p q = absurd (true≢false q)
+
+-- margins
+pub margin-small : (cap side : ℕ) → isSide side ≡ true → cap ≤ 2047 → marginOf cap side ≤ 6141
+margin-small cap side e l = mul-le-mul l (let b = side-bounds side e in let h : reach side ≤ 3 = omega arith in h)
+
+-- the answers on a kind and a cap
+module _ (r : Record) where
+  pub cap-erosion : r .kind ≡ 1 → not (eqb (r .cap) 0) ≡ capForeign r
+  unfolding capForeign
+  cap-erosion e = rw (eq-eqb (r .kind) 1 e)
+
+  module _ (n : r .kind ≢ 1) where
+    pub cap-kind : r .kind ≢ 2 → true ≡ capForeign r
+    unfolding capForeign
+    cap-kind m = rw (ne-eqb (r .kind) 1 n, ne-eqb (r .kind) 2 m)
+
+    module _ (e : r .kind ≡ 2) where
+      pub cap-large : 2047 < r .cap → true ≡ capForeign r
+      unfolding capForeign
+      cap-large l = rw (ne-eqb (r .kind) 1 n, eq-eqb (r .kind) 2 e, lt-ltb 2047 (r .cap) l)
+
+      module _ (l : r .cap ≤ 2047) (m : ℕ) (q : m ≡ margin r) where
+        pub cap-width : 4096 < r .width + (m + m) → true ≡ capForeign r
+        unfolding capForeign
+        cap-width w = rw (ne-eqb (r .kind) 1 n, eq-eqb (r .kind) 2 e, le-ltb 2047 (r .cap) l, lt-ltb 4096 (areaWidth r) (rw q at w))
+
+        pub cap-height : r .width + (m + m) ≤ 4096 → ltb 4096 (r .height + (m + m)) ≡ capForeign r
+        unfolding capForeign
+        cap-height w = rw (ne-eqb (r .kind) 1 n, eq-eqb (r .kind) 2 e, le-ltb 2047 (r .cap) l, le-ltb 4096 (areaWidth r) (rw q at w), q)
+
+  -- and on the whole
+  pub foreign-width : isSideOut (r .width) ≡ true → true ≡ foreign r
+  unfolding foreign
+  foreign-width a = rw a
+
+  module _ (a : isSideOut (r .width) ≡ false) where
+    pub foreign-height : isSideOut (r .height) ≡ true → true ≡ foreign r
+    unfolding foreign
+    foreign-height b = rw (a, b)
+
+    module _ (b : isSideOut (r .height) ≡ false) where
+      pub foreign-element : elementForeign (r .side) (r .cells) ≡ true → true ≡ foreign r
+      unfolding foreign
+      foreign-element c = rw (a, b, c)
+
+      pub foreign-cap : elementForeign (r .side) (r .cells) ≡ false → (t : Bool) → t ≡ capForeign r → t ≡ foreign r
+      unfolding foreign
+      foreign-cap c t e = rw (a, b, c) e
+
+  pub bad-foreign : foreign r ≡ true → true ≡ recordBad r
+  unfolding recordBad
+  bad-foreign a = rw a
+
+  pub bad-rows : foreign r ≡ false → (n : ℕ) → n ≡ due r → ltb n (r .rows) ≡ recordBad r
+  unfolding recordBad
+  bad-rows a n e = rw (a, e)
+
+-- WHAT A SOUND RECORD IS
+pub record Sound (r : Record) : Type 0 where
+  pub wide : (1 ≤ r .width) × (r .width ≤ 4096)
+  pub high : (1 ≤ r .height) × (r .height ≤ 4096)
+  pub side-is : isSide (r .side) ≡ true
+  pub binary : anyAboveOne (r .cells) ≡ false
+  pub square : anyOutside (r .side) (r .cells) 0 ≡ false
+  pub centre : getD (r .cells) 24 0 ≢ 0
+  pub others : countSet (r .cells) ≢ 1
+  pub kind-is : ((r .kind ≡ 1) × (r .cap ≡ 0)) ⊎ (r .kind ≡ 2)
+  pub cap-small : r .cap ≤ 2047
+  pub area-wide : areaWidth r ≤ 4096
+  pub area-high : areaHeight r ≤ 4096
+
+-- an erosion's cap is 0, and so is its margin; a dilation's canvas is small
+sound-cap : (r : Record) → capForeign r ≡ false → r .width ≤ 4096 → r .height ≤ 4096
+    → (((r .kind ≡ 1) × (r .cap ≡ 0)) ⊎ (r .kind ≡ 2)) × (r .cap ≤ 2047) × (areaWidth r ≤ 4096) × (areaHeight r ≤ 4096)
+unfolding capForeign
+sound-cap r q w h = go (eqb (r .kind) 1) refl q
+  where
+    go : (t : Bool) → eqb (r .kind) 1 ≡ t → cond t (not (eqb (r .cap) 0)) (not (eqb (r .kind) 2) || ltb 2047 (r .cap) || ltb 4096 (areaWidth r) || ltb 4096 (areaHeight r)) ≡ false
+        → (((r .kind ≡ 1) × (r .cap ≡ 0)) ⊎ (r .kind ≡ 2)) × (r .cap ≤ 2047) × (areaWidth r ≤ 4096) × (areaHeight r ≤ 4096)
+    go true k e =
+        let z : r .cap ≡ 0 = eqb-true (r .cap) 0 (not-false (eqb (r .cap) 0) e) in
+        let m : margin r ≡ 0 = ap (λ n. marginOf n (r .side)) z ∙ zero-mul (reach (r .side)) in
+        (inl (eqb-true (r .kind) 1 k, z), omega arith, omega arith, omega arith)
+    go false k e =
+        let f = neither (not (eqb (r .kind) 2) || ltb 2047 (r .cap) || ltb 4096 (areaWidth r)) (ltb 4096 (areaHeight r)) e in
+        let g = neither (not (eqb (r .kind) 2) || ltb 2047 (r .cap)) (ltb 4096 (areaWidth r)) (f .0) in
+        let i = neither (not (eqb (r .kind) 2)) (ltb 2047 (r .cap)) (g .0) in
+        (inr (eqb-true (r .kind) 2 (not-false (eqb (r .kind) 2) (i .0))), ltb-false 2047 (r .cap) (i .1), ltb-false 4096 (areaWidth r) (g .1), ltb-false 4096 (areaHeight r) (f .1))
+
+pub sound : (r : Record) → foreign r ≡ false → Sound r
+unfolding foreign elementForeign
+sound r e =
+    let f = neither (isSideOut (r .width) || isSideOut (r .height) || elementForeign (r .side) (r .cells)) (capForeign r) e in
+    let g = neither (isSideOut (r .width) || isSideOut (r .height)) (elementForeign (r .side) (r .cells)) (f .0) in
+    let s = neither (isSideOut (r .width)) (isSideOut (r .height)) (g .0) in
+    let h = neither (not (isSide (r .side)) || anyAboveOne (r .cells) || anyOutside (r .side) (r .cells) 0 || eqb (getD (r .cells) 24 0) 0) (eqb (countSet (r .cells)) 1) (g .1) in
+    let i = neither (not (isSide (r .side)) || anyAboveOne (r .cells) || anyOutside (r .side) (r .cells) 0) (eqb (getD (r .cells) 24 0) 0) (h .0) in
+    let j = neither (not (isSide (r .side)) || anyAboveOne (r .cells)) (anyOutside (r .side) (r .cells) 0) (i .0) in
+    let k = neither (not (isSide (r .side))) (anyAboveOne (r .cells)) (j .0) in
+    let c = sound-cap r (f .1) (side-in (r .width) (s .0) .1) (side-in (r .height) (s .1) .1) in
+    record {
+      wide = side-in (r .width) (s .0);
+      high = side-in (r .height) (s .1);
+      side-is = not-false (isSide (r .side)) (k .0);
+      binary = k .1;
+      square = j .1;
+      centre = eqb-false (getD (r .cells) 24 0) 0 (i .1);
+      others = eqb-false (countSet (r .cells)) 1 (h .1);
+      kind-is = c .0;
+      cap-small = c .1;
+      area-wide = c .2;
+      area-high = c .3;
+    }

@@ -1,0 +1,50 @@
+-- Each answer follows from the tests that led to it.
+use Rattle.run.proofs.RecordLaws.{cap-erosion, cap-kind, cap-large, cap-width, cap-height}
+use borrow.Author.Needs.{needs}
+use Rattle.run.proofs.records.cap_foreign.Statement.{statement}
+use Rattle.run.proofs.records.cap_foreign.Tie as tie
+
+returns : tie.Need-returns
+returns c = cap-erosion (c .before .before .args .run) (c .if1 .taken)
+
+returns-2 : tie.Need-returns-2
+returns-2 c = cap-kind (c .before .before .before .before .args .run) (c .before .before .if1 .left) (c .if2 .taken)
+
+returns-3 : tie.Need-returns-3
+returns-3 c = cap-large (c .before .before .before .before .before .args .run) (c .before .before .before .if1 .left) (c .before .if2 .left) (c .if3 .taken)
+
+margin-of-requires : tie.Need-margin-of-requires
+margin-of-requires c κs = search needs
+
+add-if4 : tie.Need-add-if4
+add-if4 c = search needs
+
+add-if4-2 : tie.Need-add-if4-2
+add-if4-2 c = search needs
+
+returns-4 : tie.Need-returns-4
+returns-4 c = cap-width (c .before .before .before .before .before .before .before .before .args .run) (c .before .before .before .before .before .before .if1 .left) (c .before .before .before .before .if2 .left) (c .before .before .before .if3 .left) (c .before .before .margin-of .result) (c .before .before .margin-of .ensures .0) (c .if4 .taken)
+
+add-result : tie.Need-add-result
+add-result c = search needs
+
+add-result-2 : tie.Need-add-result-2
+add-result-2 c = search needs
+
+returns-5 : tie.Need-returns-5
+returns-5 c = cap-height (c .before .before .before .before .before .before .before .before .before .args .run) (c .before .before .before .before .before .before .before .if1 .left) (c .before .before .before .before .before .if2 .left) (c .before .before .before .before .if3 .left) (c .before .before .before .margin-of .result) (c .before .before .before .margin-of .ensures .0) (c .before .if4 .left)
+
+pub cap-foreign-spec : {M : Type 1} → statement M
+cap-foreign-spec =
+    tie.close
+    (tie.spec
+    returns
+    returns-2
+    returns-3
+    margin-of-requires
+    add-if4
+    add-if4-2
+    returns-4
+    add-result
+    add-result-2
+    returns-5)

@@ -1,0 +1,47 @@
+-- Each answer follows from the tests that led to it.
+use Rattle.sheet.proofs.FrameLaws.{side-in}
+use Rattle.run.proofs.RecordLaws.{taken-side, foreign-width, foreign-height, foreign-element, foreign-cap}
+use borrow.Author.Needs.{needs}
+use mathlib.Core.Path.{sym, _∙_}
+use Rattle.run.proofs.records.record_foreign.Statement.{statement}
+use Rattle.run.proofs.records.record_foreign.Tie as tie
+
+is-side-out-requires : tie.Need-is-side-out-requires
+is-side-out-requires c κs = search needs
+
+returns : tie.Need-returns
+returns c = foreign-width (c .before .before .args .run) (sym (c .before .is-side-out .ensures) ∙ c .if1 .taken)
+
+is-side-out-requires-2 : tie.Need-is-side-out-requires-2
+is-side-out-requires-2 c κs = search needs
+
+returns-2 : tie.Need-returns-2
+returns-2 c = foreign-height (c .before .before .before .before .args .run) (sym (c .before .before .before .is-side-out .ensures) ∙ c .before .before .if1 .left) (sym (c .before .is-side-out2 .ensures) ∙ c .if2 .taken)
+
+element-foreign-requires : tie.Need-element-foreign-requires
+element-foreign-requires c κs = search needs
+
+returns-3 : tie.Need-returns-3
+returns-3 c = foreign-element (c .before .before .before .before .before .before .before .args .run) (sym (c .before .before .before .before .before .before .is-side-out .ensures) ∙ c .before .before .before .before .before .if1 .left) (sym (c .before .before .before .before .is-side-out2 .ensures) ∙ c .before .before .before .if2 .left) (sym (c .before .element-foreign .ensures) ∙ c .if3 .taken)
+
+cap-foreign-requires : tie.Need-cap-foreign-requires
+cap-foreign-requires c κs = (
+  taken-side (c .before .before .before .before .before .before .before .args .run .side) (c .before .before .before .before .before .before .before .args .run .cells) (sym (c .before .element-foreign .ensures) ∙ c .if3 .left),
+  (side-in (c .before .before .before .before .before .before .before .args .run .width) (sym (c .before .before .before .before .before .before .is-side-out .ensures) ∙ c .before .before .before .before .before .if1 .left) .1, side-in (c .before .before .before .before .before .before .before .args .run .height) (sym (c .before .before .before .before .is-side-out2 .ensures) ∙ c .before .before .before .if2 .left) .1),
+)
+
+returns-4 : tie.Need-returns-4
+returns-4 c = foreign-cap (c .before .before .before .before .before .before .before .before .args .run) (sym (c .before .before .before .before .before .before .before .is-side-out .ensures) ∙ c .before .before .before .before .before .before .if1 .left) (sym (c .before .before .before .before .before .is-side-out2 .ensures) ∙ c .before .before .before .before .if2 .left) (sym (c .before .before .element-foreign .ensures) ∙ c .before .if3 .left) (c .cap-foreign .result) (c .cap-foreign .ensures)
+
+pub record-foreign-spec : {M : Type 1} → statement M
+record-foreign-spec =
+    tie.close
+    (tie.spec
+    is-side-out-requires
+    returns
+    is-side-out-requires-2
+    returns-2
+    element-foreign-requires
+    returns-3
+    cap-foreign-requires
+    returns-4)

@@ -1,0 +1,134 @@
+// Records: whether a start could have given one, and the area that its run works on.
+use super::Record;
+ghost use mathlib.Core.Path.{_≡_};
+ghost use mathlib.Core.Bool.{true, false};
+ghost use Prim.Native.Nat.{_+_, _*_, _≤_};
+ghost use Rattle.element.specs.Elements.{isSide};
+ghost use Rattle.element.specs.Cells.{isHeld};
+ghost use Rattle.run.specs.Records.{marginOf, canvasSide, margin, areaWidth, areaHeight, due, outside, anyOutside, elementForeign, capForeign, foreign, recordBad};
+
+// Whether place `p` of seven is one of the side's, centred among the seven.
+fn is_held(side: usize, p: usize) -> bool
+    requires { ⌜ isSide side ≡ true ⌝ }
+    ensures { λ r. ⌜ r ≡ isHeld side p ⌝ }
+{
+    let before = 3 - (side - 1) / 2;
+    if p < before {
+        return false;
+    }
+    p < before + side
+}
+
+// Whether cell `k` is set though it lies outside the side's square.
+fn is_outside(side: usize, cell: u8, k: usize) -> bool
+    requires { ⌜ isSide side ≡ true ⌝ }
+    ensures { λ r. ⌜ r ≡ outside side cell k ⌝ }
+{
+    if cell == 0 {
+        return false;
+    }
+    if !is_held(side, k / 7) {
+        return true;
+    }
+    !is_held(side, k % 7)
+}
+
+fn any_outside(side: usize, cells: [u8; 49]) -> bool
+    requires { ⌜ isSide side ≡ true ⌝ }
+    ensures { λ r. ⌜ r ≡ anyOutside side cells 0 ⌝ }
+{
+    let mut k = 0;
+    while k < 49 {
+        if is_outside(side, cells[k], k) {
+            return true;
+        }
+        k += 1;
+    }
+    false
+}
+
+// Whether no start takes the element.
+fn element_foreign(side: usize, cells: [u8; 49]) -> bool
+    ensures { λ r. ⌜ r ≡ elementForeign side cells ⌝ }
+{
+    if !element::is_side(side) {
+        return true;
+    }
+    if element::any_above_one(&cells) {
+        return true;
+    }
+    if any_outside(side, cells) {
+        return true;
+    }
+    if cells[24] == 0 {
+        return true;
+    }
+    element::count_set(&cells) == 1
+}
+
+// The margin of the canvas.
+pub fn margin_of(cap: usize, side: usize) -> usize
+    requires { ⌜ (isSide side ≡ true) × (cap ≤ 2047) ⌝ }
+    ensures { λ r. ⌜ (r ≡ marginOf cap side) × (r ≤ 6141) ⌝ }
+{
+    cap * ((side - 1) / 2)
+}
+
+// Whether no start takes the kind with the cap, on the canvas that they give.
+fn cap_foreign(run: Record) -> bool
+    requires { ⌜ (isSide (run .side) ≡ true) × ((run .width ≤ 4096) × (run .height ≤ 4096)) ⌝ }
+    ensures { λ r. ⌜ r ≡ capForeign run ⌝ }
+{
+    let cap = run.cap;
+    if run.kind == 1 {
+        return cap != 0;
+    }
+    if run.kind != 2 {
+        return true;
+    }
+    if 2047 < cap {
+        return true;
+    }
+    let margin = margin_of(cap, run.side);
+    if 4096 < run.width + (margin + margin) {
+        return true;
+    }
+    4096 < run.height + (margin + margin)
+}
+
+// Whether no start gives the record, rows done aside.
+fn record_foreign(run: Record) -> bool
+    ensures { λ r. ⌜ r ≡ foreign run ⌝ }
+{
+    if sheet::is_side_out(run.width) {
+        return true;
+    }
+    if sheet::is_side_out(run.height) {
+        return true;
+    }
+    let cells = run.cells;
+    if element_foreign(run.side, cells) {
+        return true;
+    }
+    cap_foreign(run)
+}
+
+// The rows due in all.
+pub fn rows_due(run: Record) -> usize
+    requires { ⌜ foreign run ≡ false ⌝ }
+    ensures { λ r. ⌜ r ≡ due run ⌝ }
+{
+    let margin = margin_of(run.cap, run.side);
+    let height = run.height + (margin + margin);
+    height + height
+}
+
+// Refusal 1: no start gives the record, or more rows are done than due.
+pub fn record_bad(run: Record) -> bool
+    ensures { λ r. ⌜ r ≡ recordBad run ⌝ }
+{
+    if record_foreign(run) {
+        return true;
+    }
+    rows_due(run) < run.rows
+}
