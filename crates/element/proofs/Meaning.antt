@@ -25,7 +25,7 @@ unfolding sevenBySeven
 seven-at cell row col a b = ap (λ l. getD l col 0) (getD-table (λ r. table 7 (λ c. cell r c)) 7 row [] a) ∙ getD-table (cell row) 7 col 0 b
 
 -- where a place is held
-held-bounds : (side p : ℕ) → isHeld side p ≡ true → (3 - reach side ≤ p) × (p < 3 - reach side + side)
+pub held-bounds : (side p : ℕ) → isHeld side p ≡ true → (3 - reach side ≤ p) × (p < 3 - reach side + side)
 unfolding isHeld
 held-bounds side p e = go (leb (3 - reach side) p) (ltb p (3 - reach side + side)) refl refl e
   where

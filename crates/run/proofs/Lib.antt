@@ -1,1 +1,3 @@
 pub mod RecordLaws
+pub mod ScanCells
+pub mod ContinueLaws

@@ -1,5 +1,5 @@
 -- What the tests on a record decide, and what a sound record is: everything that the code and the theorems need of it.
-use Prim.Native.Nat.{ℕ, _+_, _-_, _/_, _%_, _≤_, _<_}
+use Prim.Native.Nat.{_*_, ℕ, _+_, _-_, _/_, _%_, _≤_, _<_}
 use native.Mathlib.Nat.{mul-le-mul, zero-mul}
 use native.Mathlib.Numerals.{add-one}
 use native.Mathlib.Omega.{arith}
@@ -210,3 +210,11 @@ sound r e =
       area-wide = c .2;
       area-high = c .3;
     }
+
+-- a record that is not refused
+pub not-bad : (r : Record) → recordBad r ≡ false → (foreign r ≡ false) × (r .rows ≤ due r)
+unfolding recordBad
+not-bad r e = let f = neither (foreign r) (ltb (due r) (r .rows)) e in (f .0, ltb-false (due r) (r .rows) (f .1))
+
+pub area-small : (height width : ℕ) → height ≤ 4096 → width ≤ 4096 → height * width ≤ 4096 * 4096
+area-small height width a b = mul-le-mul a b

@@ -1,4 +1,5 @@
 // Runs: starting, continuing, collecting and thresholding erosions and dilations.
+pub mod continuing;
 pub mod records;
 
 // A run's record. Kind 1 is an erosion, 2 a dilation; the cap of an erosion is 0; the cells are the element's 49 in one flat row.

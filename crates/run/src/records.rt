@@ -2,10 +2,11 @@
 use super::Record;
 ghost use mathlib.Core.Path.{_≡_};
 ghost use mathlib.Core.Bool.{true, false};
-ghost use Prim.Native.Nat.{_+_, _*_, _≤_};
+ghost use Prim.Native.Nat.{_≤_};
 ghost use Rattle.element.specs.Elements.{isSide};
 ghost use Rattle.element.specs.Cells.{isHeld};
-ghost use Rattle.run.specs.Records.{marginOf, canvasSide, margin, areaWidth, areaHeight, due, outside, anyOutside, elementForeign, capForeign, foreign, recordBad};
+ghost use Rattle.run.specs.Records.{marginOf, areaWidth, areaHeight, due, outside, anyOutside, elementForeign, capForeign, foreign, recordBad, noRecord};
+ghost use Rattle.run.specs.Continuing.{levelsWrong};
 
 // Whether place `p` of seven is one of the side's, centred among the seven.
 fn is_held(side: usize, p: usize) -> bool
@@ -113,14 +114,38 @@ fn record_foreign(run: Record) -> bool
     cap_foreign(run)
 }
 
+// The sides of the area: the frame's, with the margin on both sides.
+pub fn area_width(run: Record) -> usize
+    requires { ⌜ foreign run ≡ false ⌝ }
+    ensures { λ r. ⌜ (r ≡ areaWidth run) × ((1 ≤ r) × (r ≤ 4096)) ⌝ }
+{
+    let margin = margin_of(run.cap, run.side);
+    run.width + (margin + margin)
+}
+
+pub fn area_height(run: Record) -> usize
+    requires { ⌜ foreign run ≡ false ⌝ }
+    ensures { λ r. ⌜ (r ≡ areaHeight run) × ((1 ≤ r) × (r ≤ 4096)) ⌝ }
+{
+    let margin = margin_of(run.cap, run.side);
+    run.height + (margin + margin)
+}
+
 // The rows due in all.
 pub fn rows_due(run: Record) -> usize
     requires { ⌜ foreign run ≡ false ⌝ }
-    ensures { λ r. ⌜ r ≡ due run ⌝ }
+    ensures { λ r. ⌜ (r ≡ due run) × (r ≤ 8192) ⌝ }
 {
-    let margin = margin_of(run.cap, run.side);
-    let height = run.height + (margin + margin);
+    let height = area_height(run);
     height + height
+}
+
+// Whether the levels lent are not one for each point of the area.
+pub fn levels_wrong(run: Record, levels: &[u16]) -> bool
+    requires { ⌜ foreign run ≡ false ⌝ }
+    ensures { λ r. ⌜ r ≡ levelsWrong run (now (levels .entry)) ⌝ }
+{
+    levels.len() != area_height(run) * area_width(run)
 }
 
 // Refusal 1: no start gives the record, or more rows are done than due.
@@ -131,4 +156,20 @@ pub fn record_bad(run: Record) -> bool
         return true;
     }
     rows_due(run) < run.rows
+}
+
+// The record beside a refusal: all zero.
+pub fn no_record() -> Record
+    ensures { λ r. ⌜ r ≡ noRecord ⌝ }
+{
+    let cells = [0u8; 49];
+    Record {
+        kind: 0,
+        width: 0,
+        height: 0,
+        cap: 0,
+        side: 0,
+        rows: 0,
+        cells,
+    }
 }

@@ -1,0 +1,85 @@
+-- The refusal is judged first; then the rows that are left of the allowance are worked.
+use Rattle.run.proofs.RecordLaws.{not-bad}
+use Rattle.run.proofs.ContinueLaws.{continue-refuses, continue-accepted, continue-accepts}
+use borrow.Author.Needs.{needs}
+use native.Mathlib.Omega.{arith}
+use Prim.Native.Nat.{_-_, min}
+use mathlib.Core.Path.{sym, ap, _∙_}
+use Rattle.run.proofs.continuing.continue_run.Statement.{statement}
+use Rattle.run.proofs.continuing.continue_run.Tie as tie
+
+continue-refusal-requires : tie.Need-continue-refusal-requires
+continue-refusal-requires c κs = search needs
+
+refused-requires : tie.Need-refused-requires
+refused-requires c κs = search needs
+
+same-length : tie.Need-same-length
+same-length c = search needs
+
+returns : tie.Need-returns
+returns c = continue-refuses (c .before .before .before .before .before .args .run) (c .before .before .before .before .before .args .levels .now) (c .before .before .before .before .before .args .allowance) _ (c .refused .result) (c .refused .ensures) (c .before .if1 .taken) (c .before .before .continue-refusal .ensures)
+
+rows-due-requires : tie.Need-rows-due-requires
+rows-due-requires c κs = not-bad (c .before .before .before .before .args .run) (continue-accepted (c .before .before .before .before .args .run) (c .before .before .before .before .args .levels .now) (c .before .before .before .before .args .allowance) (sym (c .before .continue-refusal .ensures) ∙ c .if1 .left) .0) .0
+
+sub-lesser : tie.Need-sub-lesser
+sub-lesser c =
+    let b = not-bad (c .before .before .before .before .before .args .run) (continue-accepted (c .before .before .before .before .before .args .run) (c .before .before .before .before .before .args .levels .now) (c .before .before .before .before .before .args .allowance) (sym (c .before .before .continue-refusal .ensures) ∙ c .before .if1 .left) .0) .1 in
+    let e = c .rows-due .ensures .0 in
+    omega arith
+
+lesser-requires : tie.Need-lesser-requires
+lesser-requires c κs = search needs
+
+work-rows-requires : tie.Need-work-rows-requires
+work-rows-requires c κs =
+    let q = continue-accepted (c .before .before .before .before .before .before .before .args .run) (c .before .before .before .before .before .before .before .args .levels .now) (c .before .before .before .before .before .before .before .args .allowance) (sym (c .before .before .before .before .continue-refusal .ensures) ∙ c .before .before .before .if1 .left) in
+    let b = not-bad (c .before .before .before .before .before .before .before .args .run) (q .0) in
+    let e = c .before .before .rows-due .ensures .0 in
+    let l = c .before .lesser .ensures in
+    let h = b .1 in
+    (b .0, (q .1, omega arith))
+
+add-with-rows : tie.Need-add-with-rows
+add-with-rows c =
+    let b = not-bad (c .before .before .before .before .before .before .before .before .before .before .args .run) (continue-accepted (c .before .before .before .before .before .before .before .before .before .before .args .run) (c .before .before .before .before .before .before .before .before .before .before .args .levels .now) (c .before .before .before .before .before .before .before .before .before .before .args .allowance) (sym (c .before .before .before .before .before .before .before .continue-refusal .ensures) ∙ c .before .before .before .before .before .before .if1 .left) .0) .1 in
+    let e = c .before .before .before .before .before .rows-due .ensures in
+    let l = c .before .before .before .before .lesser .ensures in
+    omega arith
+
+with-rows-requires : tie.Need-with-rows-requires
+with-rows-requires c κs = search needs
+
+add-t12 : tie.Need-add-t12
+add-t12 c =
+    let b = not-bad (c .before .before .before .before .before .before .before .before .before .before .before .args .run) (continue-accepted (c .before .before .before .before .before .before .before .before .before .before .before .args .run) (c .before .before .before .before .before .before .before .before .before .before .before .args .levels .now) (c .before .before .before .before .before .before .before .before .before .before .before .args .allowance) (sym (c .before .before .before .before .before .before .before .before .continue-refusal .ensures) ∙ c .before .before .before .before .before .before .before .if1 .left) .0) .1 in
+    let e = c .before .before .before .before .before .before .rows-due .ensures in
+    let l = c .before .before .before .before .before .lesser .ensures in
+    omega arith
+
+same-length-2 : tie.Need-same-length-2
+same-length-2 c = search needs
+
+returns-2 : tie.Need-returns-2
+returns-2 c =
+    continue-accepts (c .before .before .before .before .before .before .before .before .before .before .before .args .run) (c .before .before .before .before .before .before .before .before .before .before .before .args .levels .now) (c .before .before .before .before .before .before .before .before .before .before .before .args .allowance) (sym (c .before .before .before .before .before .before .before .before .continue-refusal .ensures) ∙ c .before .before .before .before .before .before .before .if1 .left) (c .with-rows .result) (c .before .before .before .work-rows .last .1 .0) (c .before .before .before .before .before .lesser .result) (c .before .before .before .before .before .before .rows-due .result)
+    (c .before .before .before .before .before .lesser .ensures ∙ ap (λ n. min (c .before .before .before .before .before .before .before .before .before .before .before .args .allowance) (n - c .before .before .before .before .before .before .before .before .before .before .before .args .run .rows)) (c .before .before .before .before .before .before .rows-due .ensures .0)) (c .before .before .before .before .before .before .rows-due .ensures .0) (c .with-rows .ensures) (c .before .before .before .work-rows .ensures)
+
+pub continue-run-spec : {M : Type 1} → statement M
+continue-run-spec =
+    tie.close
+    (tie.spec
+    continue-refusal-requires
+    refused-requires
+    same-length
+    returns
+    rows-due-requires
+    sub-lesser
+    lesser-requires
+    work-rows-requires
+    add-with-rows
+    with-rows-requires
+    add-t12
+    same-length-2
+    returns-2)

@@ -1,0 +1,122 @@
+// Continuing a run by an allowance of rows.
+use super::Record;
+use super::records;
+ghost use mathlib.Core.Path.{_≡_};
+ghost use mathlib.Core.Bool.{false};
+ghost use Prim.Native.Nat.{_+_, _*_, _≤_, min};
+ghost use lib.ListN.{length};
+ghost use Rattle.basics.specs.Refusals.{first};
+ghost use Rattle.scan.specs.Scan.{scanRows};
+ghost use Rattle.run.specs.Records.{areaWidth, areaHeight, due, beyondOf, cellsOf, areaOf, foreign, noRecord};
+ghost use Rattle.run.specs.Continuing.{continueRefusals, withRows, Continues};
+
+// What a continue answers: the refusal number, 0 where it is accepted, the new record, and whether all rows are done.
+pub struct Continued {
+    pub refusal: u32,
+    pub run: Record,
+    pub done: bool,
+}
+
+fn refused(number: u32) -> Continued
+    ensures { λ r. ⌜ r ≡ record { refusal = number; run = noRecord; done = false } ⌝ }
+{
+    let run = records::no_record();
+    Continued {
+        refusal: number,
+        run,
+        done: false,
+    }
+}
+
+// The cells that lead to the partners: the element's for an erosion, turned about for a dilation.
+fn scan_cells(run: Record) -> [[u8; 7]; 7]
+    ensures { λ r. ⌜ r ≡ cellsOf run ⌝ }
+{
+    let flat = run.cells;
+    let cells = element::rows_of(flat);
+    if run.kind == 1 {
+        return cells;
+    }
+    element::turned_cells(cells)
+}
+
+// What a partner beyond the area reads.
+fn beyond_of(run: Record) -> u16
+    ensures { λ r. ⌜ r ≡ beyondOf run ⌝ }
+{
+    if run.kind == 1 {
+        return 0;
+    }
+    65535
+}
+
+fn lesser(a: usize, b: usize) -> usize
+    ensures { λ r. ⌜ r ≡ min a b ⌝ }
+{
+    if a < b { a } else { b }
+}
+
+// Refusals 1, 10 and 12 of a continue, or 0.
+fn continue_refusal(run: Record, levels: &[u16], allowance: usize) -> u32
+    ensures { λ r. ⌜ r ≡ first (continueRefusals run (now (levels .entry)) allowance) ⌝ }
+{
+    if records::record_bad(run) {
+        return 1;
+    }
+    if records::levels_wrong(run, levels) {
+        return 10;
+    }
+    if 8192 < allowance {
+        return 12;
+    }
+    0
+}
+
+// Works `count` rows of those due.
+fn work_rows(run: Record, levels: &mut [u16], count: usize)
+    requires { ⌜ (foreign run ≡ false) × ((length (now levels) ≡ areaHeight run * areaWidth run) × (run .rows + count ≤ due run)) ⌝ }
+    ensures { λ _. ⌜ now (levels .exit) ≡ scanRows (areaOf run) (run .rows) count (now (levels .entry)) ⌝ }
+{
+    let width = records::area_width(run);
+    let height = records::area_height(run);
+    let cells = scan_cells(run);
+    let beyond = beyond_of(run);
+    let reach = (run.side - 1) / 2;
+    scan::scan_rows(levels, width, height, run.rows, count, reach, cells, beyond);
+}
+
+// The record with other rows done.
+fn with_rows(run: Record, rows: usize) -> Record
+    ensures { λ r. ⌜ r ≡ withRows run rows ⌝ }
+{
+    let cells = run.cells;
+    Record {
+        kind: run.kind,
+        width: run.width,
+        height: run.height,
+        cap: run.cap,
+        side: run.side,
+        rows,
+        cells,
+    }
+}
+
+// Public: works the allowance or what is due, the lesser. Refusals 1, 10, 12.
+pub fn continue_run(run: Record, levels: &mut [u16], allowance: usize) -> Continued
+    ensures { λ r. ⌜ Continues run (now (levels .entry)) allowance (r .refusal) (r .run, r .done, now (levels .exit)) ⌝ }
+{
+    let refusal = continue_refusal(run, levels, allowance);
+    if refusal != 0 {
+        return refused(refusal);
+    }
+    let rows = run.rows;
+    let due = records::rows_due(run);
+    let count = lesser(allowance, due - rows);
+    work_rows(run, levels, count);
+    let next = with_rows(run, rows + count);
+    Continued {
+        refusal: 0,
+        run: next,
+        done: rows + count == due,
+    }
+}
