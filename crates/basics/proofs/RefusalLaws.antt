@@ -32,10 +32,13 @@ first-accepted (r ∷ xs) ys t e = go (r .1) (eqb (r .0) 0) refl t e (first-acce
     go false true q t e ih = absurd t
     go false false q t e ih = ih t e
 
--- what was accepted was judged false, one refusal after the other
-pub passed : (n : ℕ) (b : Bool) (rest : List Refusal) → n ≢ 0 → first ((n, b) ∷ rest) ≡ 0 → (b ≡ false) × (first rest ≡ 0)
-passed n true rest z e = absurd (z e)
-passed n false rest z e = (refl, e)
+-- where nothing of both applies, nothing of each does
+pub first-both : (xs ys : List Refusal) → T (numbered xs) → first (xs ++ ys) ≡ 0 → (first xs ≡ 0) × (first ys ≡ 0)
+first-both xs ys t e = go (ℕ-discrete (first xs) 0)
+  where
+    go : Dec (first xs ≡ 0) → (first xs ≡ 0) × (first ys ≡ 0)
+    go (yes z) = (z, sym (first-accepted xs ys t z) ∙ e)
+    go (no n) = absurd (n (sym (first-refused xs ys n) ∙ e))
 
 module _ {A : Type 0} {refusals : List Refusal} {kept : A} {Right : A → Type 0} where
   -- the answers of a call that refuses, and of one that accepts

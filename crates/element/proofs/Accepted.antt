@@ -61,7 +61,7 @@ some-set (b ∷ rest) n = go (ℕ-discrete b 0) (some-set rest)
     go (no m) ih = (zero, omega arith, m)
     go (yes z) ih = let h = ih (λ e. n (rw z (omega arith))) in let l = h .1 in (suc (h .0), omega arith, h .2)
 
-another-set : (bytes : List ℕ) (c : ℕ) → getD bytes c 0 ≢ 0 → countSet bytes ≢ 1 → (k : ℕ) × (k < length bytes) × (k ≢ c) × (getD bytes k 0 ≢ 0)
+pub another-set : (bytes : List ℕ) (c : ℕ) → getD bytes c 0 ≢ 0 → countSet bytes ≢ 1 → (k : ℕ) × (k < length bytes) × (k ≢ c) × (getD bytes k 0 ≢ 0)
 unfolding countSet
 another-set [] c m n = absurd (m refl)
 another-set (b ∷ rest) zero m n = go (ℕ-discrete (countSet rest) 0)

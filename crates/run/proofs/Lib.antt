@@ -1,3 +1,6 @@
 pub mod RecordLaws
 pub mod ScanCells
 pub mod ContinueLaws
+pub mod StartRecords
+pub mod Started
+pub mod Demand3

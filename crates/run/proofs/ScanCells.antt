@@ -36,7 +36,7 @@ cell-turned cells k l =
     ∙ cell-flat cells (48 - k) (omega arith)
 
 -- no cell is set outside the square
-none-outside : (side : ℕ) (cells : List ℕ) (from : ℕ) → anyOutside side cells from ≡ false → (k : ℕ) → getD cells k 0 ≢ 0 → outside side (getD cells k 0) (from + k) ≡ false
+pub none-outside : (side : ℕ) (cells : List ℕ) (from : ℕ) → anyOutside side cells from ≡ false → (k : ℕ) → getD cells k 0 ≢ 0 → outside side (getD cells k 0) (from + k) ≡ false
 unfolding anyOutside
 none-outside side [] from e k n = absurd (n refl)
 none-outside side (cell ∷ rest) from e zero n = let f = neither (outside side cell from) (anyOutside side rest (from + 1)) e in rw (let z : from + 0 ≡ from = omega arith in z) (f .0)
@@ -44,7 +44,7 @@ none-outside side (cell ∷ rest) from e (suc k) n =
     let f = neither (outside side cell from) (anyOutside side rest (from + 1)) e in
     rw (let z : from + suc k ≡ from + 1 + k = omega arith in z) (none-outside side rest (from + 1) (f .1) k n)
 
-held-square : (side cell k : ℕ) → cell ≢ 0 → outside side cell k ≡ false → (isHeld side (k / 7) ≡ true) × (isHeld side (k % 7) ≡ true)
+pub held-square : (side cell k : ℕ) → cell ≢ 0 → outside side cell k ≡ false → (isHeld side (k / 7) ≡ true) × (isHeld side (k % 7) ≡ true)
 unfolding outside
 held-square side cell k n e = go (isHeld side (k / 7)) (isHeld side (k % 7)) refl refl (rw (ne-eqb cell 0 n) at e)
   where

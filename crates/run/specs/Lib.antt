@@ -2,3 +2,4 @@ pub mod Records
 pub mod Starting
 pub mod Continuing
 pub mod Pictures
+pub mod Series
