@@ -4,3 +4,5 @@ pub mod ContinueLaws
 pub mod StartRecords
 pub mod Started
 pub mod Demand3
+pub mod StartLevels
+pub mod Demand2

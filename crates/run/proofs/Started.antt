@@ -39,7 +39,7 @@ module _ (width height : ℕ) (sheet : List ℕ) (side : ℕ) (bytes : List ℕ)
       let f = frame-sides width height (sheet-accepted width height sheet s .0) in
       rw (side-ok width (f .0 .0) (f .0 .1), side-ok height (f .1 .0) (f .1 .1), start-cells-sound side bytes (accepted side bytes e), c)
 
-length-start : (width height margin : ℕ) (sheet : List ℕ) (on off : ℕ) → length (startLevels width height margin sheet on off) ≡ canvasSide height margin * canvasSide width margin
+pub length-start : (width height margin : ℕ) (sheet : List ℕ) (on off : ℕ) → length (startLevels width height margin sheet on off) ≡ canvasSide height margin * canvasSide width margin
 unfolding startLevels
 length-start width height margin sheet on off = length-raster (canvasSide width margin) (canvasSide height margin) (λ row col. cond (inked width height margin sheet row col) on off)
 

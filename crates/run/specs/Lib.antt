@@ -3,3 +3,4 @@ pub mod Starting
 pub mod Continuing
 pub mod Pictures
 pub mod Series
+pub mod Demand2
