@@ -6,3 +6,4 @@ pub mod Started
 pub mod Demand3
 pub mod StartLevels
 pub mod Demand2
+pub mod StarredRuns

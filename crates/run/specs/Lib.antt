@@ -4,3 +4,4 @@ pub mod Continuing
 pub mod Pictures
 pub mod Series
 pub mod Demand2
+pub mod StarredRuns
