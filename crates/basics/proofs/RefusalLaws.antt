@@ -40,6 +40,11 @@ first-both xs ys t e = go (ℕ-discrete (first xs) 0)
     go (yes z) = (z, sym (first-accepted xs ys t z) ∙ e)
     go (no n) = absurd (n (sym (first-refused xs ys n) ∙ e))
 
+-- what was accepted was judged false, one refusal after the other
+pub passed : (n : ℕ) (b : Bool) (rest : List Refusal) → n ≢ 0 → first ((n, b) ∷ rest) ≡ 0 → (b ≡ false) × (first rest ≡ 0)
+passed n true rest z e = absurd (z e)
+passed n false rest z e = (refl, e)
+
 module _ {A : Type 0} {refusals : List Refusal} {kept : A} {Right : A → Type 0} where
   -- the answers of a call that refuses, and of one that accepts
   pub refuses : (number : ℕ) → number ≢ 0 → number ≡ first refusals → Answers refusals kept Right number kept

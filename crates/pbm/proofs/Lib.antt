@@ -1,0 +1,10 @@
+pub mod RunLaws
+pub mod HeaderLaws
+pub mod PackingLaws
+pub mod ClearingLaws
+pub mod BufferLaws
+pub mod Reading
+pub mod Writing
+pub mod LayoutLaws
+pub mod RoundTrips
+pub mod HeaderExamples

@@ -1,0 +1,77 @@
+-- The bytes before k are the packed sheet's, and the count of what is left of the row says which byte loses its padding.
+use Rattle.pbm.proofs.ClearingLaws.{Clearing, ready, clearing-start, clearing-turn, clearing-length, clearing-end, weight-positive, left-positive, read-room, write-room}
+use Rattle.sheet.proofs.FrameLaws.{raster-small}
+use borrow.Author.Needs.{needs}
+use native.Mathlib.Omega.{arith}
+use Prim.Native.Nat.{_*_, _-_}
+use mathlib.Core.Path.{refl, ap}
+use lib.ListN.{getD}
+use Rattle.pbm.proofs.copy_cleared.Statement.{statement}
+use Rattle.pbm.proofs.copy_cleared.Tie as tie
+
+abbrev Inv-loop : tie.InvT-loop
+Inv-loop width height raster out₀ row count weight left₀ k₀ out left k = Clearing width height raster out₀ row count weight left k out
+
+abbrev μ-loop : tie.MeasureT-loop
+μ-loop width height raster out₀ row count weight left₀ k₀ out left k = count - k
+
+row-bytes-requires : tie.Need-row-bytes-requires Inv-loop μ-loop
+row-bytes-requires c κs = search needs
+
+mul-count : tie.Need-mul-count Inv-loop μ-loop
+mul-count c = let s = raster-small (c .before .before .before .args .width) (c .before .before .before .args .height) (c .before .before .before .pre .0) (c .before .before .before .pre .1 .0) in let e = ap (λ n. c .before .before .before .args .height * n) (c .row-bytes .ensures) in omega arith
+
+padding-weight-requires : tie.Need-padding-weight-requires Inv-loop μ-loop
+padding-weight-requires c κs = search needs
+
+loop-holds : tie.Need-loop-holds Inv-loop μ-loop
+loop-holds c = clearing-start (ready (c .before .before .before .before .args .raster .now) (c .before .before .before .before .args .out .now) (c .before .row-bytes .ensures) (c .padding-weight .ensures) (c .before .before .before .before .pre .1 .1 .0) (c .before .before .before .before .pre .1 .1 .1))
+
+shared-slice-read-cleared-byte : tie.Need-shared-slice-read-cleared-byte Inv-loop μ-loop
+shared-slice-read-cleared-byte c = read-room (c .before .before .loop .inv) (c .before .loop-test .taken)
+
+cleared-byte-requires : tie.Need-cleared-byte-requires Inv-loop μ-loop
+cleared-byte-requires c κs = weight-positive (c .before .before .loop .inv)
+
+slice-write-out : tie.Need-slice-write-out Inv-loop μ-loop
+slice-write-out c = write-room (c .before .before .before .loop .inv) (c .before .before .loop-test .taken)
+
+left-after-requires : tie.Need-left-after-requires Inv-loop μ-loop
+left-after-requires c κs = left-positive (c .before .before .before .loop .inv) (c .before .before .loop-test .taken)
+
+add-k : tie.Need-add-k Inv-loop μ-loop
+add-k c = omega arith
+
+loop-less : tie.Need-loop-less Inv-loop μ-loop
+loop-less c = omega arith
+
+loop-again : tie.Need-loop-again Inv-loop μ-loop
+loop-again c =
+    let b = c .before .before .shared-slice-known2 .given (c .before .before .before .before .loop .k) in
+    clearing-turn (c .before .before .before .before .loop .inv) (c .before .before .before .loop-test .taken) (getD (c .before .before .before .before .before .before .before .before .before .args .raster .now) (c .before .before .before .before .loop .k) 0) (c .before .cleared-byte .result) (c .left-after .result) refl (omega arith) (c .before .cleared-byte .ensures) (c .left-after .ensures)
+
+same-length : tie.Need-same-length Inv-loop μ-loop
+same-length c = clearing-length (c .before .loop .inv)
+
+returns : tie.Need-returns Inv-loop μ-loop
+returns c = clearing-end (c .before .loop .inv) (c .loop-test .left)
+
+pub copy-cleared-spec : {M : Type 1} → statement M
+copy-cleared-spec =
+    tie.close
+    (tie.spec
+    Inv-loop
+    μ-loop
+    row-bytes-requires
+    mul-count
+    padding-weight-requires
+    loop-holds
+    shared-slice-read-cleared-byte
+    cleared-byte-requires
+    slice-write-out
+    left-after-requires
+    add-k
+    loop-less
+    loop-again
+    same-length
+    returns)

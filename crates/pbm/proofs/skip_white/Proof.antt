@@ -1,0 +1,56 @@
+-- At each turn the white bytes still to come end where they ended at first.
+use Rattle.pbm.proofs.RunLaws.{Skipping, skipping-start, skipping-turn, skipping-stop, skipping-end}
+use Rattle.pbm.specs.Header.{isWhite}
+use borrow.Author.Tests.{not-true, not-false}
+use borrow.Author.Needs.{needs}
+use native.Mathlib.Omega.{arith}
+use Prim.Native.Nat.{_-_}
+use mathlib.Core.Path.{sym, _∙_}
+use lib.ListN.{length}
+use Rattle.pbm.proofs.skip_white.Statement.{statement}
+use Rattle.pbm.proofs.skip_white.Tie as tie
+
+abbrev Inv-loop : tie.InvT-loop
+Inv-loop file at i₀ i = Skipping isWhite file at i
+
+abbrev μ-loop : tie.MeasureT-loop
+μ-loop file at i₀ i = length file - i
+
+loop-holds : tie.Need-loop-holds Inv-loop μ-loop
+loop-holds c = skipping-start isWhite (c .before .args .file .now) (c .before .args .at) (c .before .pre)
+
+shared-slice-read-byte : tie.Need-shared-slice-read-byte Inv-loop μ-loop
+shared-slice-read-byte c = search needs
+
+is-white-requires : tie.Need-is-white-requires Inv-loop μ-loop
+is-white-requires c κs = search needs
+
+returns : tie.Need-returns Inv-loop μ-loop
+returns c = skipping-stop (c .before .before .before .before .loop .inv) (c .before .before .before .loop-test .taken) (sym (c .before .is-white .ensures) ∙ not-true _ (c .if1 .taken))
+
+add-i : tie.Need-add-i Inv-loop μ-loop
+add-i c = search needs
+
+loop-less : tie.Need-loop-less Inv-loop μ-loop
+loop-less c = omega arith
+
+loop-again : tie.Need-loop-again Inv-loop μ-loop
+loop-again c = skipping-turn (c .before .before .before .before .loop .inv) (c .before .before .before .loop-test .taken) (sym (c .before .is-white .ensures) ∙ not-false _ (c .if1 .left))
+
+returns-2 : tie.Need-returns-2 Inv-loop μ-loop
+returns-2 c = skipping-end (c .before .loop .inv) (c .loop-test .left)
+
+pub skip-white-spec : {M : Type 1} → statement M
+skip-white-spec =
+    tie.close
+    (tie.spec
+    Inv-loop
+    μ-loop
+    loop-holds
+    shared-slice-read-byte
+    is-white-requires
+    returns
+    add-i
+    loop-less
+    loop-again
+    returns-2)

@@ -1,0 +1,13 @@
+pub mod WroteLaws
+pub mod RowLaws
+pub mod SizeLaws
+pub mod LevelLaws
+pub mod HeaderLaws
+pub mod TextLaws
+pub mod LineLaws
+pub mod LevelLines
+pub mod FillLaws
+pub mod WordLaws
+pub mod PgmLaws
+pub mod PgmExamples
+pub mod FinishedLaws

@@ -1,0 +1,63 @@
+-- The levels that are left have one above exactly where all the levels have.
+use Rattle.pgm.specs.WritePgm.{anyAbove}
+use Rattle.pgm.proofs.FinishedLaws.{above-found, above-passed, above-end}
+use borrow.Author.Needs.{needs}
+use native.Mathlib.Omega.{arith}
+use Prim.Native.Nat.{_-_, _≤_}
+use mathlib.Core.Path.{_≡_, refl, sym, _∙_}
+use lib.ListN.{length, drop}
+use Rattle.pgm.proofs.finished.any_above.Statement.{statement}
+use Rattle.pgm.proofs.finished.any_above.Tie as tie
+
+abbrev Inv-loop : tie.InvT-loop
+Inv-loop limit levels i₀ i = (i ≤ length levels) × (anyAbove limit (drop i levels) ≡ anyAbove limit levels)
+
+abbrev μ-loop : tie.MeasureT-loop
+μ-loop limit levels i₀ i = length levels - i
+
+loop-holds : tie.Need-loop-holds Inv-loop μ-loop
+loop-holds c = (omega arith, refl)
+
+mul-wide : tie.Need-mul-wide Inv-loop μ-loop
+mul-wide c = search needs
+
+shared-slice-read-wide : tie.Need-shared-slice-read-wide Inv-loop μ-loop
+shared-slice-read-wide c = search needs
+
+wide-requires : tie.Need-wide-requires Inv-loop μ-loop
+wide-requires c κs = search needs
+
+returns : tie.Need-returns Inv-loop μ-loop
+returns c =
+    let e = c .before .wide .ensures in
+    sym (sym (c .before .before .before .before .loop .inv .1) ∙ above-found (c .before .before .before .before .before .before .args .limit) (c .before .before .before .before .before .before .args .levels .now) (c .before .before .before .before .loop .i) (c .before .before .before .loop-test .taken) (let l = c .if1 .taken in omega arith))
+
+add-i : tie.Need-add-i Inv-loop μ-loop
+add-i c = search needs
+
+loop-less : tie.Need-loop-less Inv-loop μ-loop
+loop-less c = search needs
+
+loop-again : tie.Need-loop-again Inv-loop μ-loop
+loop-again c =
+    let e = c .before .wide .ensures in
+    (omega arith, sym (above-passed (c .before .before .before .before .before .before .args .limit) (c .before .before .before .before .before .before .args .levels .now) (c .before .before .before .before .loop .i) (c .before .before .before .loop-test .taken) (let l = c .if1 .left in omega arith)) ∙ c .before .before .before .before .loop .inv .1)
+
+returns-2 : tie.Need-returns-2 Inv-loop μ-loop
+returns-2 c = sym (sym (c .before .loop .inv .1) ∙ above-end (c .before .before .before .args .limit) (c .before .before .before .args .levels .now) (c .before .loop .i) (c .loop-test .left))
+
+pub any-above-spec : {M : Type 1} → statement M
+any-above-spec =
+    tie.close
+    (tie.spec
+    Inv-loop
+    μ-loop
+    loop-holds
+    mul-wide
+    shared-slice-read-wide
+    wide-requires
+    returns
+    add-i
+    loop-less
+    loop-again
+    returns-2)

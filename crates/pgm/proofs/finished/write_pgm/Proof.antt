@@ -1,0 +1,55 @@
+-- The refusal is judged first; then the text is the one that was measured.
+use Rattle.run.proofs.RecordLaws.{not-bad}
+use Rattle.pgm.specs.PgmText.{pgmText}
+use Rattle.pgm.proofs.FinishedLaws.{picture-refuses, picture-accepted, picture-accepts, sound-picture}
+use borrow.Author.Needs.{needs}
+use mathlib.Core.Path.{sym, ap, ap₂, _∙_}
+use mathlib.Core.List.{_++_}
+use lib.ListN.{length, drop}
+use Rattle.pgm.proofs.finished.write_pgm.Statement.{statement}
+use Rattle.pgm.proofs.finished.write_pgm.Tie as tie
+
+pgm-refusal-requires : tie.Need-pgm-refusal-requires
+pgm-refusal-requires c κs = search needs
+
+same-length : tie.Need-same-length
+same-length c = search needs
+
+returns : tie.Need-returns
+returns c = picture-refuses (c .before .before .before .before .before .args .run) (c .before .before .before .before .before .args .levels .now) (c .before .before .before .before .before .args .out .now) _ (c .if1 .taken) (c .before .pgm-refusal .ensures)
+
+maximum-of-requires : tie.Need-maximum-of-requires
+maximum-of-requires c κs = not-bad (c .before .before .before .before .before .args .run) (picture-accepted (c .before .before .before .before .before .args .run) (c .before .before .before .before .before .args .levels .now) (c .before .before .before .before .before .args .out .now) (sym (c .before .pgm-refusal .ensures) ∙ c .if1 .left) .0) .0
+
+rows-due-requires : tie.Need-rows-due-requires
+rows-due-requires c κs = not-bad (c .before .before .before .before .before .before .args .run) (picture-accepted (c .before .before .before .before .before .before .args .run) (c .before .before .before .before .before .before .args .levels .now) (c .before .before .before .before .before .before .args .out .now) (sym (c .before .before .pgm-refusal .ensures) ∙ c .before .if1 .left) .0) .0
+
+write-pgm-text-requires : tie.Need-write-pgm-text-requires
+write-pgm-text-requires c κs =
+    let q = picture-accepted (c .before .before .before .before .before .before .before .before .args .run) (c .before .before .before .before .before .before .before .before .args .levels .now) (c .before .before .before .before .before .before .before .before .args .out .now) (sym (c .before .before .before .before .pgm-refusal .ensures) ∙ c .before .before .before .if1 .left) in
+    let e = ap₂ (λ m d. pgmText (c .before .before .before .before .before .before .before .before .args .run .width) (c .before .before .before .before .before .before .before .before .args .run .height) m (c .before .before .before .before .before .before .before .before .args .run .rows) d (c .before .before .before .before .before .before .before .before .args .levels .now)) (c .before .before .maximum-of .ensures .0) (c .before .rows-due .ensures .0) in (
+      sound-picture (c .before .before .before .before .before .before .before .before .args .run) (c .before .before .before .before .before .before .before .before .args .levels .now) (q .0) (q .1) (c .before .before .maximum-of .result) (c .before .rows-due .result) (c .before .before .maximum-of .ensures .1) (c .before .rows-due .ensures .0),
+      rw e (q .2),
+    )
+
+same-length-2 : tie.Need-same-length-2
+same-length-2 c = search needs
+
+returns-2 : tie.Need-returns-2
+returns-2 c =
+    let e = ap₂ (λ m d. pgmText (c .before .before .before .before .before .before .before .before .before .before .before .args .run .width) (c .before .before .before .before .before .before .before .before .before .before .before .args .run .height) m (c .before .before .before .before .before .before .before .before .before .before .before .args .run .rows) d (c .before .before .before .before .before .before .before .before .before .before .before .args .levels .now)) (c .before .before .before .before .before .maximum-of .ensures .0) (c .before .before .before .before .rows-due .ensures .0) in
+    let w = c .before .before .write-pgm-text .ensures in
+    picture-accepts (c .before .before .before .before .before .before .before .before .before .before .before .args .run) (c .before .before .before .before .before .before .before .before .before .before .before .args .levels .now) (c .before .before .before .before .before .before .before .before .before .before .before .args .out .now) (sym (c .before .before .before .before .before .before .before .pgm-refusal .ensures) ∙ c .before .before .before .before .before .before .if1 .left) (c .before .before .write-pgm-text .result) _ (w .0 ∙ ap length e) (w .1 ∙ ap (λ t. t ++ drop (length t) (c .before .before .before .before .before .before .before .before .before .before .before .args .out .now)) e)
+
+pub write-pgm-spec : {M : Type 1} → statement M
+write-pgm-spec =
+    tie.close
+    (tie.spec
+    pgm-refusal-requires
+    same-length
+    returns
+    maximum-of-requires
+    rows-due-requires
+    write-pgm-text-requires
+    same-length-2
+    returns-2)

@@ -1,0 +1,30 @@
+-- The label, and the number after it.
+use Rattle.decimal.specs.Numbers.{digits}
+use Rattle.pgm.proofs.WroteLaws.{room-first, room-second, wrote-both, wrote-number}
+use borrow.Author.Needs.{needs}
+use Rattle.pgm.proofs.write_labelled.Statement.{statement}
+use Rattle.pgm.proofs.write_labelled.Tie as tie
+
+write-bytes-requires : tie.Need-write-bytes-requires
+write-bytes-requires c κs =
+    let start = c .before .before .before in
+    room-first (start .args .label .now) (digits (start .args .n)) (start .args .at) (start .args .out .now) (start .pre)
+
+write-number-requires : tie.Need-write-number-requires
+write-number-requires c κs =
+    let start = c .before .before .before .before .before .before .before in
+    room-second (start .args .label .now) (digits (start .args .n)) (start .args .at) (start .args .out .now) (start .pre) (c .before .before .before .write-bytes .ensures)
+
+same-length : tie.Need-same-length
+same-length c = search needs
+
+returns : tie.Need-returns
+returns c =
+    let start = c .before .before .before .before .before .before .before .before .before .before in
+    let bytes = c .before .before .before .before .before .before .write-bytes in
+    let number = c .before .before .write-number in
+    wrote-both (start .args .label .now) (digits (start .args .n)) (start .args .at) (start .args .out .now) (start .pre) (bytes .ensures) (wrote-number (start .args .n) (bytes .result) (bytes .last .1 .0) (number .last .1 .0) (number .result) (number .ensures))
+
+pub write-labelled-spec : {M : Type 1} → statement M
+write-labelled-spec =
+    tie.close (tie.spec write-bytes-requires write-number-requires same-length returns)

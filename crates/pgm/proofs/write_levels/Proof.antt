@@ -1,0 +1,74 @@
+-- The rows so far, with those left, make the whole.
+use Rattle.pgm.proofs.LevelLaws.{LevelsWriting, levels-start, levels-same, levels-inside, levels-row, levels-room, levels-turn, levels-end}
+use borrow.Author.Needs.{needs}
+use native.Mathlib.Omega.{arith}
+use Prim.Native.Nat.{_-_}
+use Rattle.pgm.proofs.write_levels.Statement.{statement}
+use Rattle.pgm.proofs.write_levels.Tie as tie
+
+abbrev Inv-loop : tie.InvT-loop
+Inv-loop width height levels out₀ at end₀ from₀ i₀ out end from i = LevelsWriting width height levels at out₀ end from i out
+
+abbrev μ-loop : tie.MeasureT-loop
+μ-loop width height levels out₀ at end₀ from₀ i₀ out end from i = height - i
+
+loop-holds : tie.Need-loop-holds Inv-loop μ-loop
+loop-holds c =
+    let start = c .before .before in
+    levels-start (start .args .width) (start .args .height) (start .args .levels .now) (start .args .at) (start .args .out .now) (start .pre .1 .0) (start .pre .1 .1)
+
+add-stop : tie.Need-add-stop Inv-loop μ-loop
+add-stop c = let s = levels-inside (c .before .loop .inv) (c .loop-test .taken) in omega arith
+
+mul-write-row : tie.Need-mul-write-row Inv-loop μ-loop
+mul-write-row c = let s = levels-inside (c .before .loop .inv) (c .loop-test .taken) in omega arith
+
+sub-write-row : tie.Need-sub-write-row Inv-loop μ-loop
+sub-write-row c = search needs
+
+part-write-row-start : tie.Need-part-write-row-start Inv-loop μ-loop
+part-write-row-start c = search needs
+
+part-write-row-end : tie.Need-part-write-row-end Inv-loop μ-loop
+part-write-row-end c = levels-inside (c .before .loop .inv) (c .loop-test .taken)
+
+write-row-requires : tie.Need-write-row-requires Inv-loop μ-loop
+write-row-requires c κs =
+    let turn = c .before .before .before .loop in
+    (levels-row (turn .inv) (c .before .before .before .before .before .before .pre .0) (c .before .before .loop-test .taken), levels-room (turn .inv) (c .before .before .loop-test .taken))
+
+add-i : tie.Need-add-i Inv-loop μ-loop
+add-i c = search needs
+
+loop-less : tie.Need-loop-less Inv-loop μ-loop
+loop-less c = omega arith
+
+loop-again : tie.Need-loop-again Inv-loop μ-loop
+loop-again c =
+    let row = c .before .before .write-row in
+    levels-turn (c .before .before .before .before .before .before .loop .inv) (row .last .1 .0) (row .result) (c .before .before .before .before .before .loop-test .taken) (row .ensures)
+
+same-length : tie.Need-same-length Inv-loop μ-loop
+same-length c = levels-same (c .before .loop .inv)
+
+returns : tie.Need-returns Inv-loop μ-loop
+returns c = levels-end (c .before .loop .inv) (c .loop-test .left)
+
+pub write-levels-spec : {M : Type 1} → statement M
+write-levels-spec =
+    tie.close
+    (tie.spec
+    Inv-loop
+    μ-loop
+    loop-holds
+    add-stop
+    mul-write-row
+    sub-write-row
+    part-write-row-start
+    part-write-row-end
+    write-row-requires
+    add-i
+    loop-less
+    loop-again
+    same-length
+    returns)

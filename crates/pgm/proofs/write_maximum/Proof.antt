@@ -1,0 +1,42 @@
+-- The maximum, and the end of its line.
+use Rattle.decimal.specs.Numbers.{digits}
+use Rattle.pgm.proofs.WroteLaws.{room-first, room-second, wrote-both}
+use borrow.Author.Needs.{needs}
+use mathlib.Core.List.{[], _∷_}
+use Rattle.pgm.proofs.write_maximum.Statement.{statement}
+use Rattle.pgm.proofs.write_maximum.Tie as tie
+
+slice-aggregate-write-labelled : tie.Need-slice-aggregate-write-labelled
+slice-aggregate-write-labelled c = search needs
+
+write-labelled-requires : tie.Need-write-labelled-requires
+write-labelled-requires c κs =
+    let start = c .before .before .before in
+    room-first (10 ∷ digits (start .args .maximum)) (10 ∷ []) (start .args .at) (start .args .out .now) (start .pre)
+
+slice-aggregate-write-bytes : tie.Need-slice-aggregate-write-bytes
+slice-aggregate-write-bytes c = search needs
+
+write-bytes-requires : tie.Need-write-bytes-requires
+write-bytes-requires c κs =
+    let start = c .before .before .before .before .before .before .before .before in
+    room-second (10 ∷ digits (start .args .maximum)) (10 ∷ []) (start .args .at) (start .args .out .now) (start .pre) (c .before .before .before .before .write-labelled .ensures)
+
+same-length : tie.Need-same-length
+same-length c = search needs
+
+returns : tie.Need-returns
+returns c =
+    let start = c .before .before .before .before .before .before .before .before .before .before .before in
+    wrote-both (10 ∷ digits (start .args .maximum)) (10 ∷ []) (start .args .at) (start .args .out .now) (start .pre) (c .before .before .before .before .before .before .before .write-labelled .ensures) (c .before .before .write-bytes .ensures)
+
+pub write-maximum-spec : {M : Type 1} → statement M
+write-maximum-spec =
+    tie.close
+    (tie.spec
+    slice-aggregate-write-labelled
+    write-labelled-requires
+    slice-aggregate-write-bytes
+    write-bytes-requires
+    same-length
+    returns)

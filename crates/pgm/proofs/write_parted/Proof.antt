@@ -1,0 +1,47 @@
+-- The digits stand first, and then the byte before them.
+use Rattle.pgm.proofs.WroteLaws.{wrote-number}
+use Rattle.pgm.proofs.RowLaws.{wrote-parted}
+use borrow.Author.Needs.{needs}
+use Prim.Native.Nat.{_+_}
+use Rattle.pgm.proofs.write_parted.Statement.{statement}
+use Rattle.pgm.proofs.write_parted.Tie as tie
+
+add-write-number : tie.Need-add-write-number
+add-write-number c = search needs
+
+write-number-requires : tie.Need-write-number-requires
+write-number-requires c κs = search needs
+
+sub-parting-byte : tie.Need-sub-parting-byte
+sub-parting-byte c = search needs
+
+sub-parting-byte-2 : tie.Need-sub-parting-byte-2
+sub-parting-byte-2 c = search needs
+
+parting-byte-requires : tie.Need-parting-byte-requires
+parting-byte-requires c κs = search needs
+
+slice-write-out : tie.Need-slice-write-out
+slice-write-out c = search needs
+
+same-length : tie.Need-same-length
+same-length c = search needs
+
+returns : tie.Need-returns
+returns c =
+    let start = c .before .before .before .before .before .before in
+    let number = c .before .before .before .write-number in
+    wrote-parted (start .args .level) (start .args .column) (start .args .at) (start .args .out .now) (number .last .1 .0) (number .result) (c .parting-byte .result) (start .pre .1) (wrote-number (start .args .level) (start .args .at + 1) (start .args .out .now) (number .last .1 .0) (number .result) (number .ensures)) (c .parting-byte .ensures)
+
+pub write-parted-spec : {M : Type 1} → statement M
+write-parted-spec =
+    tie.close
+    (tie.spec
+    add-write-number
+    write-number-requires
+    sub-parting-byte
+    sub-parting-byte-2
+    parting-byte-requires
+    slice-write-out
+    same-length
+    returns)

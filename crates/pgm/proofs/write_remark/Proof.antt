@@ -1,0 +1,40 @@
+-- The magic number, and what follows it up to the end of the remark.
+use Rattle.pgm.proofs.HeaderLaws.{remark-first, remark-second, remark-wrote}
+use borrow.Author.Needs.{needs}
+use Rattle.pgm.proofs.write_remark.Statement.{statement}
+use Rattle.pgm.proofs.write_remark.Tie as tie
+
+write-bytes-requires : tie.Need-write-bytes-requires
+write-bytes-requires c κs =
+    let start = c .before .before .before in
+    remark-first (start .args .magic .now) (start .args .done) (start .args .due) (start .args .at) (start .args .out .now) (start .pre)
+
+slice-aggregate-write-pair : tie.Need-slice-aggregate-write-pair
+slice-aggregate-write-pair c = search needs
+
+slice-aggregate-write-pair-2 : tie.Need-slice-aggregate-write-pair-2
+slice-aggregate-write-pair-2 c = search needs
+
+write-pair-requires : tie.Need-write-pair-requires
+write-pair-requires c κs =
+    let start = c .before .before .before .before .before .before .before .before .before in
+    remark-second (start .args .magic .now) (start .args .done) (start .args .due) (start .args .at) (start .args .out .now) (start .pre) (c .before .before .before .before .before .write-bytes .ensures)
+
+same-length : tie.Need-same-length
+same-length c = search needs
+
+returns : tie.Need-returns
+returns c =
+    let start = c .before .before .before .before .before .before .before .before .before .before .before .before in
+    remark-wrote (start .args .magic .now) (start .args .done) (start .args .due) (start .args .at) (start .args .out .now) (start .pre) (c .before .before .before .before .before .before .before .before .write-bytes .ensures) (c .before .before .write-pair .ensures)
+
+pub write-remark-spec : {M : Type 1} → statement M
+write-remark-spec =
+    tie.close
+    (tie.spec
+    write-bytes-requires
+    slice-aggregate-write-pair
+    slice-aggregate-write-pair-2
+    write-pair-requires
+    same-length
+    returns)

@@ -1,0 +1,4 @@
+pub mod Lines
+pub mod PgmText
+pub mod Writing
+pub mod WritePgm

@@ -1,0 +1,33 @@
+-- What writing a finished run's collected levels as plain PGM answers.
+use Prim.Native.Nat.{ℕ, _+_, _*_, max}
+use mathlib.Core.Path.{_≡_}
+use mathlib.Core.Bool.{Bool, false, not, cond, _||_}
+use mathlib.Core.List.{List, [], _∷_, _++_}
+use lib.Dec.{eqb, ltb}
+use lib.ListN.{length, drop}
+use Rattle.basics.specs.Refusals.{Refusal, Answers}
+use Rattle.run.specs.declared.Record.{Record}
+use Rattle.run.specs.Records.{isErosion, due, recordBad}
+use Rattle.run.specs.Continuing.{isDone}
+use Rattle.pgm.specs.PgmText.{pgmText}
+
+-- the larger frame side for an erosion, R + 1 for a dilation
+abbrev pub maximum : Record → ℕ
+maximum r = cond (isErosion r) (max (r .width) (r .height)) (r .cap + 1)
+
+unfoldable pub anyAbove : ℕ → List ℕ → Bool
+anyAbove limit [] = false
+anyAbove limit (level ∷ rest) = ltb limit level || anyAbove limit rest
+
+abbrev pub picture : Record → List ℕ → List ℕ
+picture r levels = pgmText (r .width) (r .height) (maximum r) (r .rows) (due r) levels
+
+abbrev pub pgmRefusals : Record → List ℕ → List ℕ → List Refusal
+pgmRefusals r levels out =
+    (1, recordBad r) ∷ (8, anyAbove (maximum r) levels) ∷ (10, not (eqb (length levels) (r .height * r .width))) ∷
+    (11, ltb (length out) (length (picture r levels))) ∷ (13, not (isDone r)) ∷ []
+
+-- the text's length, and the text at the front of the output, the rest as it was
+abbrev pub WritesPgm : Record → List ℕ → List ℕ → ℕ → ℕ × List ℕ → Type 0
+WritesPgm r levels out =
+    Answers (pgmRefusals r levels out) (0, out) (λ after. after ≡ (length (picture r levels), picture r levels ++ drop (length (picture r levels)) out))
