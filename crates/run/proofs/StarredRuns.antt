@@ -5,7 +5,7 @@ use mathlib.Core.Bool.{Bool, true, false, _&&_}
 use mathlib.Core.List.{List, [], _∷_}
 use lib.Dec.{T, eqb, eqb→eq}
 use Rattle.basics.specs.Tables.{table, raster}
-use Rattle.grid.specs.Starred.{Case, Question}
+use Rattle.grid.specs.Starred.{Case}
 use Rattle.grid.specs.Starred.{table as cases}
 use Rattle.element.specs.Cells.{sevenBySeven, isHeld, centredCell, centred, turned, flat, unflat}
 use Rattle.sheet.specs.Sheets.{pixel, packedByte, packed}

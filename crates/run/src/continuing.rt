@@ -44,10 +44,10 @@ fn scan_cells(run: Record) -> [[u8; 7]; 7]
 fn beyond_of(run: Record) -> u16
     ensures { λ r. ⌜ r ≡ beyondOf run ⌝ }
 {
-    if run.kind == 1 {
-        return 0;
+    if run.kind != 1 {
+        return 65535;
     }
-    65535
+    0
 }
 
 fn lesser(a: usize, b: usize) -> usize

@@ -1,6 +1,8 @@
 // Runs: starting, continuing, collecting and thresholding erosions and dilations.
 pub mod continuing;
+pub mod pictures;
 pub mod records;
+pub mod starting;
 
 // A run's record. Kind 1 is an erosion, 2 a dilation; the cap of an erosion is 0; the cells are the element's 49 in one flat row.
 pub struct Record {

@@ -1,0 +1,68 @@
+-- What the tests on one number decide: a pixel or a kind that is 1, a level within a limit, a level that is held.
+use Prim.Native.Nat.{ℕ, _*_, _≤_, _<_}
+use native.Mathlib.Nat.{mul-zero, mul-one}
+use native.Mathlib.Omega.{arith}
+use mathlib.Core.Path.{_≡_, refl, sym, ap, _∙_}
+use mathlib.Core.Bool.{Bool, true, false, cond, _&&_, _||_}
+use mathlib.Core.Logic.{_≢_}
+use lib.Dec.{eqb, leb, ltb}
+use borrow.Author.Tests.{lt-ltb, le-ltb, le-leb, lt-leb, eq-eqb, ne-eqb}
+use Rattle.row.specs.RowRule.{none}
+use Rattle.run.specs.Patches.{limitedTo, heldBetween}
+
+module _ (n a b : ℕ) where
+  pub where-one : n ≡ 1 → a ≡ cond (eqb n 1) a b
+  where-one e = rw (eq-eqb n 1 e)
+
+  pub where-other : n ≢ 1 → b ≡ cond (eqb n 1) a b
+  where-other m = rw (ne-eqb n 1 m)
+
+module _ (limit level : ℕ) where
+  pub limited-kept : level ≤ limit → level ≡ limitedTo limit level
+  unfolding limitedTo
+  limited-kept l = rw (le-leb level limit l) (go (eqb limit none))
+    where
+      go : (t : Bool) → level ≡ cond (t || true) level 0
+      go true = refl
+      go false = refl
+
+  pub limited-cut : level ≤ none → limit < level → 0 ≡ limitedTo limit level
+  unfolding limitedTo
+  limited-cut small l = rw (ne-eqb limit none (λ e. omega arith), lt-leb level limit l)
+
+module _ (low high level : ℕ) where
+  pub held-low : level ≤ low → 0 ≡ heldBetween low high level
+  unfolding heldBetween
+  held-low l = rw (le-ltb low level l) (go (eqb high none || leb level high))
+    where
+      go : (t : Bool) → _≡_ {A = ℕ} 0 (cond (t && false) 1 0)
+      go true = refl
+      go false = refl
+
+  pub held-high : level ≤ none → high < level → 0 ≡ heldBetween low high level
+  unfolding heldBetween
+  held-high small l = rw (ne-eqb high none (λ e. omega arith), lt-leb level high l)
+
+  pub held-in : low < level → level ≤ high → 1 ≡ heldBetween low high level
+  unfolding heldBetween
+  held-in a b = rw (lt-ltb low level a, le-leb level high b) (go (eqb high none))
+    where
+      go : (t : Bool) → _≡_ {A = ℕ} 1 (cond ((t || true) && true) 1 0)
+      go true = refl
+      go false = refl
+
+  pub held-binary : heldBetween low high level ≤ 1
+  unfolding heldBetween
+  held-binary = go ((eqb high none || leb level high) && ltb low level)
+    where
+      go : (t : Bool) → cond t 1 0 ≤ 1
+      go true = omega arith
+      go false = omega arith
+
+-- a weight counts where its bit is 1
+module _ (some : ℕ) {bit held : ℕ} (is : bit ≡ held) where
+  pub counts-none : bit ≡ 0 → 0 ≡ some * held
+  counts-none z = sym (mul-zero some) ∙ ap (λ n. some * n) (sym z ∙ is)
+
+  pub counts-one : bit ≢ 0 → held ≤ 1 → some ≡ some * held
+  counts-one n l = sym (mul-one some) ∙ ap (λ n. some * n) (let e : 1 ≡ held = omega arith in e)

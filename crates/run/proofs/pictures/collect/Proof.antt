@@ -1,0 +1,84 @@
+-- Each answer follows from the tests that led to it; a sound record has a small area, which its levels cover.
+use Rattle.basics.proofs.RefusalLaws.{refuses, accepts}
+use Rattle.run.proofs.RecordLaws.{not-bad, area-small}
+use Rattle.run.proofs.PictureAnswers.{sound-record, area-canvas, is-collected, room-wrong, rows-wanting, nothing-wrong, collect-record, collect-levels, collect-last}
+use borrow.Author.Needs.{needs}
+use native.Mathlib.Omega.{arith}
+use Prim.Native.Nat.{_*_}
+use mathlib.Core.Path.{sym, _∙_}
+use Rattle.run.proofs.pictures.collect.Statement.{statement}
+use Rattle.run.proofs.pictures.collect.Tie as tie
+
+record-bad-requires : tie.Need-record-bad-requires
+record-bad-requires c κs = search needs
+
+returns : tie.Need-returns
+returns c =
+    let start = c .before .before .before .before in
+    refuses 1 (λ z. absurd (omega arith)) (sym (collect-record (start .args .run) (start .args .levels .now) (start .args .out .now) (sym (c .before .record-bad .ensures) ∙ c .if1 .taken)))
+
+levels-wrong-requires : tie.Need-levels-wrong-requires
+levels-wrong-requires c κs = not-bad (c .before .before .before .before .args .run) (sym (c .before .record-bad .ensures) ∙ c .if1 .left) .0
+
+returns-2 : tie.Need-returns-2
+returns-2 c =
+    let start = c .before .before .before .before .before .before in
+    refuses 10 (λ z. absurd (omega arith)) (sym (collect-levels (start .args .run) (start .args .levels .now) (start .args .out .now) (sym (c .before .before .before .record-bad .ensures) ∙ c .before .before .if1 .left) (sym (c .before .levels-wrong .ensures) ∙ c .if2 .taken)))
+
+mul-if3 : tie.Need-mul-if3
+mul-if3 c =
+    let start = c .before .before .before .before .before .before .before in
+    let k = sound-record (start .args .run) (sym (c .before .before .before .before .record-bad .ensures) ∙ c .before .before .before .if1 .left) in
+    let s = area-small (start .args .run .height) (start .args .run .width) (k .high .1) (k .wide .1) in
+    omega arith
+
+returns-3 : tie.Need-returns-3
+returns-3 c =
+    let start = c .before .before .before .before .before .before .before .before in
+    refuses 11 (λ z. absurd (omega arith)) (sym (collect-last (start .args .run) (start .args .levels .now) (start .args .out .now) (sym (c .before .before .before .before .before .record-bad .ensures) ∙ c .before .before .before .before .if1 .left) (sym (c .before .before .before .levels-wrong .ensures) ∙ c .before .before .if2 .left) (room-wrong (start .args .run) (start .args .out .now) (start .args .run .height * start .args .run .width) (c .if3 .taken))))
+
+rows-due-requires : tie.Need-rows-due-requires
+rows-due-requires c κs = not-bad (c .before .before .before .before .before .before .before .before .args .run) (sym (c .before .before .before .before .before .record-bad .ensures) ∙ c .before .before .before .before .if1 .left) .0
+
+returns-4 : tie.Need-returns-4
+returns-4 c =
+    let start = c .before .before .before .before .before .before .before .before .before .before .before in
+    refuses 13 (λ z. absurd (omega arith)) (sym (collect-last (start .args .run) (start .args .levels .now) (start .args .out .now) (sym (c .before .before .before .before .before .before .before .before .record-bad .ensures) ∙ c .before .before .before .before .before .before .before .if1 .left) (sym (c .before .before .before .before .before .before .levels-wrong .ensures) ∙ c .before .before .before .before .before .if2 .left) (rows-wanting (start .args .run) (start .args .out .now) (start .args .run .height * start .args .run .width) (c .before .before .before .if3 .left) (λ e. c .if4 .taken (e ∙ sym (c .before .before .rows-due .ensures .0))))))
+
+margin-of-requires : tie.Need-margin-of-requires
+margin-of-requires c κs = let k = sound-record (c .before .before .before .before .before .before .before .before .before .before .before .args .run) (sym (c .before .before .before .before .before .before .before .before .record-bad .ensures) ∙ c .before .before .before .before .before .before .before .if1 .left) in (k .side-is, k .cap-small)
+
+collected-limit-requires : tie.Need-collected-limit-requires
+collected-limit-requires c κs = sound-record (c .before .before .before .before .before .before .before .before .before .before .before .before .args .run) (sym (c .before .before .before .before .before .before .before .before .before .record-bad .ensures) ∙ c .before .before .before .before .before .before .before .before .if1 .left) .cap-small
+
+copy-frame-requires : tie.Need-copy-frame-requires
+copy-frame-requires c κs =
+    let start = c .before .before .before .before .before .before .before .before .before .before .before .before .before .before in
+    (area-canvas (sound-record (start .args .run) (sym (c .before .before .before .before .before .before .before .before .before .before .before .record-bad .ensures) ∙ c .before .before .before .before .before .before .before .before .before .before .if1 .left)) (start .args .levels .now) (sym (c .before .before .before .before .before .before .before .before .before .levels-wrong .ensures) ∙ c .before .before .before .before .before .before .before .before .if2 .left) (c .before .before .margin-of .result) (c .before .before .margin-of .ensures .0), c .before .before .before .before .before .before .if3 .left)
+
+same-length : tie.Need-same-length
+same-length c = search needs
+
+returns-5 : tie.Need-returns-5
+returns-5 c =
+    let start = c .before .before .before .before .before .before .before .before .before .before .before .before .before .before .before .before .before in
+    accepts _ (collect-last (start .args .run) (start .args .levels .now) (start .args .out .now) (sym (c .before .before .before .before .before .before .before .before .before .before .before .before .before .before .record-bad .ensures) ∙ c .before .before .before .before .before .before .before .before .before .before .before .before .before .if1 .left) (sym (c .before .before .before .before .before .before .before .before .before .before .before .before .levels-wrong .ensures) ∙ c .before .before .before .before .before .before .before .before .before .before .before .if2 .left) (nothing-wrong (start .args .run) (start .args .out .now) (start .args .run .height * start .args .run .width) (c .before .before .before .before .before .before .before .before .before .if3 .left) (c .before .before .before .before .before .before .if4 .left ∙ (c .before .before .before .before .before .before .before .before .rows-due .ensures .0))))
+    (c .before .before .copy-frame .ensures ∙ is-collected (sound-record (start .args .run) (sym (c .before .before .before .before .before .before .before .before .before .before .before .before .before .before .record-bad .ensures) ∙ c .before .before .before .before .before .before .before .before .before .before .before .before .before .if1 .left)) (start .args .levels .now) (c .before .before .before .before .before .margin-of .result) (c .before .before .before .before .before .margin-of .ensures .0) (c .before .before .before .before .collected-limit .result) (c .before .before .before .before .collected-limit .ensures))
+
+pub collect-spec : {M : Type 1} → statement M
+collect-spec =
+    tie.close
+    (tie.spec
+    record-bad-requires
+    returns
+    levels-wrong-requires
+    returns-2
+    mul-if3
+    returns-3
+    rows-due-requires
+    returns-4
+    margin-of-requires
+    collected-limit-requires
+    copy-frame-requires
+    same-length
+    returns-5)

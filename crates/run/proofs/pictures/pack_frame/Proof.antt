@@ -1,0 +1,91 @@
+-- The loop's invariant: the rows above are packed.
+use Rattle.sheet.specs.Sheets.{rowBytes}
+use Rattle.run.proofs.PatchLaws.{Rows, rows-none, frame-room}
+use Rattle.run.proofs.PictureLaws.{packedLevel, packed-row, packed-all, bytes-room}
+use borrow.Author.Needs.{needs}
+use native.Mathlib.Omega.{arith}
+use Prim.Native.Nat.{_-_, _≤_}
+use Rattle.run.proofs.pictures.pack_frame.Statement.{statement}
+use Rattle.run.proofs.pictures.pack_frame.Tie as tie
+
+abbrev Inv-loop : tie.InvT-loop
+Inv-loop levels width height margin low high out₀ side bytes row₀ out row =
+    (row ≤ height) × Rows (rowBytes width) (packedLevel width margin levels low high) row out₀ out
+
+abbrev μ-loop : tie.MeasureT-loop
+μ-loop levels width height margin low high out₀ side bytes row₀ out row = height - row
+
+add-side : tie.Need-add-side Inv-loop μ-loop
+add-side c = search needs
+
+add-side-2 : tie.Need-add-side-2 Inv-loop μ-loop
+add-side-2 c = search needs
+
+row-bytes-requires : tie.Need-row-bytes-requires Inv-loop μ-loop
+row-bytes-requires c κs = search needs
+
+loop-holds : tie.Need-loop-holds Inv-loop μ-loop
+loop-holds c = (omega arith, rows-none)
+
+add-pack-row : tie.Need-add-pack-row Inv-loop μ-loop
+add-pack-row c = search needs
+
+mul-pack-row : tie.Need-mul-pack-row Inv-loop μ-loop
+mul-pack-row c = let s = frame-room (c .before .before .before .before .before .pre .0) (c .before .loop .row) (c .loop-test .taken) in omega arith
+
+add-pack-row-2 : tie.Need-add-pack-row-2 Inv-loop μ-loop
+add-pack-row-2 c = let s = frame-room (c .before .before .before .before .before .pre .0) (c .before .loop .row) (c .loop-test .taken) in omega arith
+
+mul-pack-row-2 : tie.Need-mul-pack-row-2 Inv-loop μ-loop
+mul-pack-row-2 c =
+    let start = c .before .before .before .before .before .before in
+    let s = bytes-room (start .args .width) (start .args .height) (c .before .before .loop .row) (c .before .before .before .row-bytes .result) (c .before .before .before .row-bytes .ensures) (c .before .loop-test .taken) in let e = start .pre .1 in omega arith
+
+pack-row-requires : tie.Need-pack-row-requires Inv-loop μ-loop
+pack-row-requires c κs =
+    let start = c .before .before .before .before .before .before in
+    let s = frame-room (start .pre .0) (c .before .before .loop .row) (c .before .loop-test .taken) in
+    let t = bytes-room (start .args .width) (start .args .height) (c .before .before .loop .row) (c .before .before .before .row-bytes .result) (c .before .before .before .row-bytes .ensures) (c .before .loop-test .taken) in
+    let w = start .pre .0 .wide in
+    let long = c .before .before .loop .inv .1 .filled .size in
+    (omega arith, (omega arith, omega arith))
+
+add-row : tie.Need-add-row Inv-loop μ-loop
+add-row c = search needs
+
+loop-less : tie.Need-loop-less Inv-loop μ-loop
+loop-less c = omega arith
+
+loop-again : tie.Need-loop-again Inv-loop μ-loop
+loop-again c =
+    let start = c .before .before .before .before .before .before .before .before .before in
+    (omega arith, packed-row (start .args .width) (start .args .margin) (start .args .levels .now) (start .args .low) (start .args .high) (c .before .before .before .before .before .loop .inv .1) (c .before .before .before .before .before .before .row-bytes .ensures) (c .before .before .pack-row .ensures))
+
+same-length : tie.Need-same-length Inv-loop μ-loop
+same-length c = c .before .loop .inv .1 .filled .size
+
+returns : tie.Need-returns Inv-loop μ-loop
+returns c =
+    let start = c .before .before .before .before .before in
+    packed-all (start .args .width) (start .args .margin) (start .args .levels .now) (start .args .low) (start .args .high) (start .args .height) (c .before .loop .inv .1) (omega arith) (start .pre .1)
+
+pub pack-frame-spec : {M : Type 1} → statement M
+pack-frame-spec =
+    tie.close
+    (tie.spec
+    Inv-loop
+    μ-loop
+    add-side
+    add-side-2
+    row-bytes-requires
+    loop-holds
+    add-pack-row
+    mul-pack-row
+    add-pack-row-2
+    mul-pack-row-2
+    pack-row-requires
+    add-row
+    loop-less
+    loop-again
+    same-length
+    returns)

@@ -1,0 +1,21 @@
+-- The record keeps the cells that the two functions of element give.
+use Rattle.element.specs.Cells.{flat}
+use Rattle.run.proofs.Starts.{begun-record}
+use borrow.Author.Needs.{needs}
+use mathlib.Core.Path.{refl, ap, _∙_}
+use Rattle.run.proofs.starting.begun.Statement.{statement}
+use Rattle.run.proofs.starting.begun.Tie as tie
+
+cells-of-requires : tie.Need-cells-of-requires
+cells-of-requires c κs = search needs
+
+flat-cells-requires : tie.Need-flat-cells-requires
+flat-cells-requires c κs = search needs
+
+returns : tie.Need-returns
+returns c =
+    let start = c .before .before .before in
+    (refl, begun-record (start .args .kind) (start .args .width) (start .args .height) (start .args .cap) (start .args .side) (start .args .bytes .now) _ (c .flat-cells .ensures ∙ ap flat (c .before .cells-of .ensures)))
+
+pub begun-spec : {M : Type 1} → statement M
+begun-spec = tie.close (tie.spec cells-of-requires flat-cells-requires returns)

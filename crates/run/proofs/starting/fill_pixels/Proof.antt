@@ -1,0 +1,72 @@
+-- The loop's invariant: the levels of the first columns are filled. The pixel's byte is in the sheet, because the row's bytes are.
+use lib.Dec.{eqb}
+use mathlib.Core.Bool.{cond}
+use Rattle.sheet.specs.Sheets.{pixel}
+use Rattle.run.specs.Patches.{Patch}
+use Rattle.run.proofs.PatchLaws.{patch-none, patch-turn, patch-all}
+use borrow.Author.Needs.{needs}
+use native.Mathlib.Omega.{arith}
+use Prim.Native.Nat.{_-_, _≤_}
+use mathlib.Core.Path.{ap, _∙_}
+use Rattle.run.proofs.starting.fill_pixels.Statement.{statement}
+use Rattle.run.proofs.starting.fill_pixels.Tie as tie
+
+abbrev Inv-loop : tie.InvT-loop
+Inv-loop levels₀ at width sheet row on off col₀ levels col =
+    (col ≤ width) × Patch at col (λ j. cond (eqb (pixel width sheet row j) 1) on off) levels₀ levels
+
+abbrev μ-loop : tie.MeasureT-loop
+μ-loop levels₀ at width sheet row on off col₀ levels col = width - col
+
+loop-holds : tie.Need-loop-holds Inv-loop μ-loop
+loop-holds c = (search needs, patch-none _ _ _)
+
+pixel-at-requires : tie.Need-pixel-at-requires Inv-loop μ-loop
+pixel-at-requires c κs = search needs
+
+pixel-level-requires : tie.Need-pixel-level-requires Inv-loop μ-loop
+pixel-level-requires c κs = search needs
+
+add-levels : tie.Need-add-levels Inv-loop μ-loop
+add-levels c = search needs
+
+mul-levels : tie.Need-mul-levels Inv-loop μ-loop
+mul-levels c = search needs
+
+slice-write-levels : tie.Need-slice-write-levels Inv-loop μ-loop
+slice-write-levels c = search needs
+
+add-col : tie.Need-add-col Inv-loop μ-loop
+add-col c = search needs
+
+loop-less : tie.Need-loop-less Inv-loop μ-loop
+loop-less c = search needs
+
+loop-again : tie.Need-loop-again Inv-loop μ-loop
+loop-again c =
+    let start = c .before .before .before .before .before .before in
+    (omega arith, patch-turn (c .before .before .before .loop .inv .1) (c .pixel-level .result) (omega arith) (c .pixel-level .ensures ∙ ap (λ p. cond (eqb p 1) (start .args .on) (start .args .off)) (c .before .pixel-at .ensures)))
+
+same-length : tie.Need-same-length Inv-loop μ-loop
+same-length c = search needs
+
+returns : tie.Need-returns Inv-loop μ-loop
+returns c = patch-all (c .before .loop .inv .1) (c .before .before .before .before .args .width) (omega arith)
+
+pub fill-pixels-spec : {M : Type 1} → statement M
+fill-pixels-spec =
+    tie.close
+    (tie.spec
+    Inv-loop
+    μ-loop
+    loop-holds
+    pixel-at-requires
+    pixel-level-requires
+    add-levels
+    mul-levels
+    slice-write-levels
+    add-col
+    loop-less
+    loop-again
+    same-length
+    returns)

@@ -1,0 +1,111 @@
+-- Off the frame the whole row is off; else its three stretches follow one another. Every place is small, because the row is in the levels.
+use Rattle.run.proofs.PatchLaws.{patch-as, row-room}
+use Rattle.run.proofs.StartLaws.{row-bytes, row-above, row-below, row-parts}
+use borrow.Author.Needs.{needs}
+use native.Mathlib.Omega.{arith}
+use Rattle.run.proofs.starting.fill_row.Statement.{statement}
+use Rattle.run.proofs.starting.fill_row.Tie as tie
+
+add-side : tie.Need-add-side
+add-side c = search needs
+
+add-side-2 : tie.Need-add-side-2
+add-side-2 c = search needs
+
+mul-at : tie.Need-mul-at
+mul-at c =
+    let start = c .before .before in
+    let s = row-room (start .pre .0) (start .args .row) (start .pre .1 .1) in omega arith
+
+fill-level-requires : tie.Need-fill-level-requires
+fill-level-requires c κs =
+    let start = c .before .before .before .before in
+    let s = row-room (start .pre .0) (start .args .row) (start .pre .1 .1) in omega arith
+
+same-length : tie.Need-same-length
+same-length c = search needs
+
+returns : tie.Need-returns
+returns c =
+    let start = c .before .before .before .before .before .before .before in
+    patch-as (c .before .before .fill-level .ensures) _ (λ col _. row-above (start .args .width) (start .args .height) (start .args .margin) (start .args .sheet .now) (start .args .on) (start .args .off) (start .args .row) (c .before .before .before .before .if1 .taken) col)
+
+add-if2 : tie.Need-add-if2
+add-if2 c = search needs
+
+fill-level-requires-2 : tie.Need-fill-level-requires-2
+fill-level-requires-2 c κs =
+    let start = c .before .before .before .before .before in
+    let s = row-room (start .pre .0) (start .args .row) (start .pre .1 .1) in omega arith
+
+same-length-2 : tie.Need-same-length-2
+same-length-2 c = search needs
+
+returns-2 : tie.Need-returns-2
+returns-2 c =
+    let start = c .before .before .before .before .before .before .before .before in
+    patch-as (c .before .before .fill-level2 .ensures) _ (λ col _. row-below (start .args .width) (start .args .height) (start .args .margin) (start .args .sheet .now) (start .args .on) (start .args .off) (start .args .row) (c .before .before .before .before .if2 .taken) col)
+
+fill-level-requires-3 : tie.Need-fill-level-requires-3
+fill-level-requires-3 c κs =
+    let start = c .before .before .before .before .before in
+    let s = row-room (start .pre .0) (start .args .row) (start .pre .1 .1) in omega arith
+
+add-fill-pixels : tie.Need-add-fill-pixels
+add-fill-pixels c =
+    let start = c .before .before .before .before .before .before .before .before .before in
+    let s = row-room (start .pre .0) (start .args .row) (start .pre .1 .1) in omega arith
+
+fill-pixels-requires : tie.Need-fill-pixels-requires
+fill-pixels-requires c κs =
+    let start = c .before .before .before .before .before .before .before .before .before in
+    let s = row-room (start .pre .0) (start .args .row) (start .pre .1 .1) in
+    let w = start .pre .0 .wide in
+    let h = start .pre .0 .high in
+    (omega arith, (omega arith, (omega arith, rw (start .pre .1 .0) (row-bytes (start .args .width) (start .args .height) (start .args .margin) (start .args .row) (c .before .before .before .before .before .before .if1 .left) (c .before .before .before .before .before .if2 .left)))))
+
+add-fill-level : tie.Need-add-fill-level
+add-fill-level c =
+    let start = c .before .before .before .before .before .before .before .before .before .before .before .before .before in
+    let s = row-room (start .pre .0) (start .args .row) (start .pre .1 .1) in omega arith
+
+add-fill-level-2 : tie.Need-add-fill-level-2
+add-fill-level-2 c =
+    let start = c .before .before .before .before .before .before .before .before .before .before .before .before .before in
+    let s = row-room (start .pre .0) (start .args .row) (start .pre .1 .1) in omega arith
+
+fill-level-requires-4 : tie.Need-fill-level-requires-4
+fill-level-requires-4 c κs =
+    let start = c .before .before .before .before .before .before .before .before .before .before .before .before .before in
+    let s = row-room (start .pre .0) (start .args .row) (start .pre .1 .1) in omega arith
+
+same-length-3 : tie.Need-same-length-3
+same-length-3 c = search needs
+
+returns-3 : tie.Need-returns-3
+returns-3 c =
+    let start = c .before .before .before .before .before .before .before .before .before .before .before .before .before .before .before .before in
+    row-parts (start .args .width) (start .args .height) (start .args .margin) (start .args .sheet .now) (start .args .on) (start .args .off) (start .args .row) (c .before .before .before .before .before .before .before .before .before .before .before .before .before .if1 .left) (c .before .before .before .before .before .before .before .before .before .before .before .before .if2 .left) (c .before .before .before .before .before .before .before .before .before .before .fill-level3 .ensures) (c .before .before .before .before .before .before .fill-pixels .ensures) (c .before .before .fill-level4 .ensures)
+
+pub fill-row-spec : {M : Type 1} → statement M
+fill-row-spec =
+    tie.close
+    (tie.spec
+    add-side
+    add-side-2
+    mul-at
+    fill-level-requires
+    same-length
+    returns
+    add-if2
+    fill-level-requires-2
+    same-length-2
+    returns-2
+    fill-level-requires-3
+    add-fill-pixels
+    fill-pixels-requires
+    add-fill-level
+    add-fill-level-2
+    fill-level-requires-4
+    same-length-3
+    returns-3)

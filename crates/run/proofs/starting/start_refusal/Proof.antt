@@ -1,0 +1,26 @@
+-- The sheet's refusals stand first, then the element's.
+use Rattle.run.proofs.Starts.{refuse-sheet, judge-element}
+use borrow.Author.Needs.{needs}
+use mathlib.Core.Path.{sym, _∙_}
+use Rattle.run.proofs.starting.start_refusal.Statement.{statement}
+use Rattle.run.proofs.starting.start_refusal.Tie as tie
+
+sheet-refusal-requires : tie.Need-sheet-refusal-requires
+sheet-refusal-requires c κs = search needs
+
+returns : tie.Need-returns
+returns c =
+    let start = c .before .before .before .before in
+    refuse-sheet (start .args .width) (start .args .height) (start .args .sheet .now) (start .args .side) (start .args .bytes .now) _ (c .if1 .taken) (c .before .sheet-refusal .ensures)
+
+element-refusal-requires : tie.Need-element-refusal-requires
+element-refusal-requires c κs = search needs
+
+returns-2 : tie.Need-returns-2
+returns-2 c =
+    let start = c .before .before .before .before .before in
+    judge-element (start .args .width) (start .args .height) (start .args .sheet .now) (start .args .side) (start .args .bytes .now) (sym (c .before .before .sheet-refusal .ensures) ∙ c .before .if1 .left) (c .element-refusal .ensures)
+
+pub start-refusal-spec : {M : Type 1} → statement M
+start-refusal-spec =
+    tie.close (tie.spec sheet-refusal-requires returns element-refusal-requires returns-2)

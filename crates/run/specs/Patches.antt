@@ -1,0 +1,38 @@
+-- What the functions that fill a buffer by stretches say of it, and of the levels that they read.
+use Prim.Native.Nat.{ℕ, _+_, _*_, _/_, _^_, _≤_, _<_}
+use mathlib.Core.Path.{_≡_}
+use mathlib.Core.Bool.{cond, _&&_, _||_}
+use mathlib.Core.List.{List}
+use lib.Dec.{eqb, leb, ltb}
+use lib.ListN.{length, getD}
+use Rattle.row.specs.RowRule.{none}
+use Rattle.run.specs.Records.{canvasSide}
+
+-- The n entries from at on are f of their place in the stretch; the others are as they were.
+pub record Patch (at n : ℕ) (f : ℕ → ℕ) (buffer after : List ℕ) : Type 0 where
+  pub size : length after ≡ length buffer
+  pub inside : (i : ℕ) → i < n → getD after (at + i) 0 ≡ f i
+  pub earlier : (k : ℕ) → k < at → getD after k 0 ≡ getD buffer k 0
+  pub later : (k : ℕ) → at + n ≤ k → getD after k 0 ≡ getD buffer k 0
+
+-- Levels for all of the area that a margin makes of a frame, its sides in their limits.
+pub record Canvas (width height margin : ℕ) (levels : List ℕ) : Type 0 where
+  pub wide : canvasSide width margin ≤ 4096
+  pub high : canvasSide height margin ≤ 4096
+  pub room : length levels ≡ canvasSide height margin * canvasSide width margin
+
+-- the level at a row and a column of the frame
+abbrev pub levelIn : ℕ → ℕ → List ℕ → ℕ → ℕ → ℕ
+levelIn width margin levels row col = getD levels ((row + margin) * canvasSide width margin + (col + margin)) 0
+
+-- a level, or 0 where it is above the limit; 65,535 limits nothing
+unfoldable pub limitedTo : ℕ → ℕ → ℕ
+limitedTo limit level = cond (eqb limit none || leb level limit) level 0
+
+-- 1 where a level is above low and at most high, else 0; 65,535 as high limits nothing
+unfoldable pub heldBetween : ℕ → ℕ → ℕ → ℕ
+heldBetween low high level = cond ((eqb high none || leb level high) && ltb low level) 1 0
+
+-- what the bit of a column counts in its byte, by its place from the highest
+abbrev pub weight : ℕ → ℕ
+weight i = 128 / 2 ^ i

@@ -1,0 +1,241 @@
+// Pictures of a finished run: its levels collected, and the sheet that it holds at a size.
+use super::Record;
+use super::records;
+ghost use mathlib.Core.Path.{_≡_};
+ghost use mathlib.Core.Bool.{cond};
+ghost use Prim.Native.Nat.{_+_, _*_, _%_, _≤_};
+ghost use lib.ListN.{length, getD};
+ghost use Rattle.basics.specs.Tables.{raster};
+ghost use Rattle.sheet.specs.Sheets.{rowBytes, packedByte, packed};
+ghost use Rattle.run.specs.Records.{isErosion};
+ghost use Rattle.run.specs.Patches.{Patch, Canvas, levelIn, limitedTo, heldBetween, weight};
+ghost use Rattle.run.specs.Pictures.{sizeLimit, Collects, Thresholds};
+
+// The level, or 0 where it is above the limit.
+fn limited(level: u16, limit: u16) -> u16
+    ensures { λ r. ⌜ r ≡ limitedTo limit level ⌝ }
+{
+    if level <= limit {
+        return level;
+    }
+    0
+}
+
+// The `n` levels from `from` on go to the places from `at` on, each within the limit.
+fn copy_row(levels: &[u16], from: usize, n: usize, limit: u16, out: &mut [u16], at: usize)
+    requires { ⌜ (from + n ≤ length (now levels)) × (at + n ≤ length (now out)) ⌝ }
+    ensures { λ _. ⌜ Patch at n (λ i. limitedTo limit (getD (now (levels .entry)) (from + i) 0)) (now (out .entry)) (now (out .exit)) ⌝ }
+{
+    let mut i = 0;
+    while i < n {
+        let level = limited(levels[from + i], limit);
+        out[at + i] = level;
+        i += 1;
+    }
+}
+
+// The frame's part of the levels, each within the limit.
+fn copy_frame(
+    levels: &[u16],
+    width: usize,
+    height: usize,
+    margin: usize,
+    limit: u16,
+    out: &mut [u16],
+)
+    requires { ⌜ Canvas width height margin (now levels) × (length (now out) ≡ height * width) ⌝ }
+    ensures { λ _. ⌜ now (out .exit) ≡ raster width height (λ row col. limitedTo limit (levelIn width margin (now (levels .entry)) row col)) ⌝ }
+{
+    let side = width + (margin + margin);
+    let mut row = 0;
+    while row < height {
+        copy_row(
+            levels,
+            (row + margin) * side + margin,
+            width,
+            limit,
+            out,
+            row * width,
+        );
+        row += 1;
+    }
+}
+
+// The highest level that is collected as it is: any of an erosion, R + 1 of a dilation.
+fn collected_limit(run: Record) -> u16
+    requires { ⌜ run .cap ≤ 2047 ⌝ }
+    ensures { λ r. ⌜ r ≡ cond (isErosion run) 65535 (run .cap + 1) ⌝ }
+{
+    if run.kind == 1 {
+        return 65535;
+    }
+    run.cap as u16 + 1
+}
+
+// Public: fills `out` with the frame's levels of a finished run. Refusals 1, 10, 11, 13.
+pub fn collect(run: Record, levels: &[u16], out: &mut [u16]) -> u32
+    ensures { λ r. ⌜ Collects run (now (levels .entry)) (now (out .entry)) r (now (out .exit)) ⌝ }
+{
+    if records::record_bad(run) {
+        return 1;
+    }
+    if records::levels_wrong(run, levels) {
+        return 10;
+    }
+    if out.len() != run.height * run.width {
+        return 11;
+    }
+    if run.rows != records::rows_due(run) {
+        return 13;
+    }
+    let margin = records::margin_of(run.cap, run.side);
+    let limit = collected_limit(run);
+    copy_frame(levels, run.width, run.height, margin, limit, out);
+    0
+}
+
+// Whether a level is above `low` and at most `high`, as 1 or 0.
+fn held(level: u16, low: u16, high: u16) -> u8
+    ensures { λ r. ⌜ r ≡ heldBetween low high level ⌝ }
+{
+    if level <= low {
+        return 0;
+    }
+    if high < level {
+        return 0;
+    }
+    1
+}
+
+// What a column adds to its byte: its bit's weight where its level is held.
+fn held_weight(level: u16, low: u16, high: u16, col: usize) -> u8
+    ensures { λ r. ⌜ r ≡ weight (col % 8) * heldBetween low high level ⌝ }
+{
+    if held(level, low, high) == 0 {
+        return 0;
+    }
+    128 >> (col % 8)
+}
+
+// The `n` bytes from `at` on become 0.
+fn clear(out: &mut [u8], at: usize, n: usize)
+    requires { ⌜ at + n ≤ length (now out) ⌝ }
+    ensures { λ _. ⌜ Patch at n (λ _. 0) (now (out .entry)) (now (out .exit)) ⌝ }
+{
+    let mut i = 0;
+    while i < n {
+        out[at + i] = 0;
+        i += 1;
+    }
+}
+
+// The bytes from `at` on become the packed row of the levels from `from` on.
+fn pack_row(
+    levels: &[u16],
+    from: usize,
+    width: usize,
+    low: u16,
+    high: u16,
+    out: &mut [u8],
+    at: usize,
+)
+    requires { ⌜ (from + width ≤ length (now levels)) × ((width ≤ 4096) × (at + rowBytes width ≤ length (now out))) ⌝ }
+    ensures { λ _. ⌜ Patch at (rowBytes width) (packedByte width (λ col. heldBetween low high (getD (now (levels .entry)) (from + col) 0))) (now (out .entry)) (now (out .exit)) ⌝ }
+{
+    clear(out, at, sheet::row_bytes(width));
+    let mut col = 0;
+    while col < width {
+        let more = held_weight(levels[from + col], low, high, col);
+        let byte = out[at + col / 8];
+        out[at + col / 8] = byte + more;
+        col += 1;
+    }
+}
+
+// The packed sheet of the frame's part of the levels.
+pub fn pack_frame(
+    levels: &[u16],
+    width: usize,
+    height: usize,
+    margin: usize,
+    low: u16,
+    high: u16,
+    out: &mut [u8],
+)
+    requires { ⌜ Canvas width height margin (now levels) × (length (now out) ≡ height * rowBytes width) ⌝ }
+    ensures { λ _. ⌜ now (out .exit) ≡ packed width height (λ row col. heldBetween low high (levelIn width margin (now (levels .entry)) row col)) ⌝ }
+{
+    let side = width + (margin + margin);
+    let bytes = sheet::row_bytes(width);
+    let mut row = 0;
+    while row < height {
+        pack_row(
+            levels,
+            (row + margin) * side + margin,
+            width,
+            low,
+            high,
+            out,
+            row * bytes,
+        );
+        row += 1;
+    }
+}
+
+// The greatest size that may be asked for.
+fn size_limit(run: Record) -> usize
+    ensures { λ r. ⌜ r ≡ sizeLimit run ⌝ }
+{
+    if run.kind == 1 {
+        return 4096;
+    }
+    run.cap
+}
+
+// A held level is above this: the size itself for an erosion, 0 for a dilation.
+fn below_held(run: Record, size: usize) -> u16
+    requires { ⌜ size ≤ 4096 ⌝ }
+    ensures { λ r. ⌜ r ≡ cond (isErosion run) size 0 ⌝ }
+{
+    if run.kind == 1 {
+        return size as u16;
+    }
+    0
+}
+
+// A held level is at most this: any for an erosion, the size and one for a dilation.
+fn highest_held(run: Record, size: usize) -> u16
+    requires { ⌜ size ≤ 4096 ⌝ }
+    ensures { λ r. ⌜ r ≡ cond (isErosion run) 65535 (size + 1) ⌝ }
+{
+    if run.kind == 1 {
+        return 65535;
+    }
+    size as u16 + 1
+}
+
+// Public: fills `out` with the packed sheet that a finished run holds at a size. Refusals 1, 8, 10, 11, 13.
+pub fn threshold(run: Record, levels: &[u16], size: usize, out: &mut [u8]) -> u32
+    ensures { λ r. ⌜ Thresholds run (now (levels .entry)) size (now (out .entry)) r (now (out .exit)) ⌝ }
+{
+    if records::record_bad(run) {
+        return 1;
+    }
+    if size_limit(run) < size {
+        return 8;
+    }
+    if records::levels_wrong(run, levels) {
+        return 10;
+    }
+    if out.len() != run.height * sheet::row_bytes(run.width) {
+        return 11;
+    }
+    if run.rows != records::rows_due(run) {
+        return 13;
+    }
+    let margin = records::margin_of(run.cap, run.side);
+    let low = below_held(run, size);
+    let high = highest_held(run, size);
+    pack_frame(levels, run.width, run.height, margin, low, high, out);
+    0
+}

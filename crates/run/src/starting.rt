@@ -1,0 +1,214 @@
+// Starting a run: the two kinds judge their inputs, fill the levels, and make the record.
+use super::Record;
+use super::records;
+ghost use mathlib.Core.Path.{_≡_};
+ghost use mathlib.Core.Bool.{true, cond};
+ghost use mathlib.Core.List.{_++_};
+ghost use Prim.Native.Nat.{_+_, _*_, _<_, _≤_};
+ghost use lib.Dec.{eqb};
+ghost use lib.ListN.{length};
+ghost use Rattle.basics.specs.Refusals.{first};
+ghost use Rattle.element.specs.Elements.{isSide, elementRefusals};
+ghost use Rattle.sheet.specs.Sheets.{pixel, rowBytes, sheetRefusals};
+ghost use Rattle.run.specs.Records.{canvasSide, noRecord};
+ghost use Rattle.run.specs.Starting.{startRecord, inked, startLevels, StartsErosion, StartsDilation};
+ghost use Rattle.run.specs.Patches.{Patch, Canvas};
+
+// What a start answers: the refusal number, 0 where it is accepted, and the run's record, all zero beside a refusal.
+pub struct Started {
+    pub refusal: u32,
+    pub run: Record,
+}
+
+// The `n` levels from `at` on become `level`.
+pub fn fill_level(levels: &mut [u16], at: usize, n: usize, level: u16)
+    requires { ⌜ at + n ≤ length (now levels) ⌝ }
+    ensures { λ _. ⌜ Patch at n (λ i. level) (now (levels .entry)) (now (levels .exit)) ⌝ }
+{
+    let mut i = 0;
+    while i < n {
+        levels[at + i] = level;
+        i += 1;
+    }
+}
+
+// The level that a pixel starts with.
+fn pixel_level(pixel: u8, on: u16, off: u16) -> u16
+    ensures { λ r. ⌜ r ≡ cond (eqb pixel 1) on off ⌝ }
+{
+    if pixel == 1 {
+        return on;
+    }
+    off
+}
+
+// The levels from `at` on become those of the pixels in a row of the frame.
+fn fill_pixels(
+    levels: &mut [u16],
+    at: usize,
+    width: usize,
+    sheet: &[u8],
+    row: usize,
+    on: u16,
+    off: u16,
+)
+    requires { ⌜ (at + width ≤ length (now levels)) × ((width ≤ 4096) × ((row < 4096) × (row * rowBytes width + rowBytes width ≤ length (now sheet)))) ⌝ }
+    ensures { λ _. ⌜ Patch at width (λ col. cond (eqb (pixel width (now (sheet .entry)) row col) 1) on off) (now (levels .entry)) (now (levels .exit)) ⌝ }
+{
+    let mut col = 0;
+    while col < width {
+        let level = pixel_level(sheet::pixel_at(width, sheet, row, col), on, off);
+        levels[at + col] = level;
+        col += 1;
+    }
+}
+
+// A row of the area: off the frame all is `off`; else the left margin, the pixels, the right margin.
+fn fill_row(
+    levels: &mut [u16],
+    width: usize,
+    height: usize,
+    margin: usize,
+    sheet: &[u8],
+    row: usize,
+    on: u16,
+    off: u16,
+)
+    requires { ⌜ Canvas width height margin (now levels) × ((length (now sheet) ≡ height * rowBytes width) × (row < canvasSide height margin)) ⌝ }
+    ensures { λ _. ⌜ Patch (row * canvasSide width margin) (canvasSide width margin) (λ col. cond (inked width height margin (now (sheet .entry)) row col) on off) (now (levels .entry)) (now (levels .exit)) ⌝ }
+{
+    let side = width + (margin + margin);
+    let at = row * side;
+    if row < margin {
+        fill_level(levels, at, side, off);
+        return;
+    }
+    if margin + height <= row {
+        fill_level(levels, at, side, off);
+        return;
+    }
+    fill_level(levels, at, margin, off);
+    fill_pixels(levels, at + margin, width, sheet, row - margin, on, off);
+    fill_level(levels, at + margin + width, margin, off);
+}
+
+// The start levels of either kind: `on` on the foreground, `off` elsewhere in the area.
+fn fill_area(
+    levels: &mut [u16],
+    width: usize,
+    height: usize,
+    margin: usize,
+    sheet: &[u8],
+    on: u16,
+    off: u16,
+)
+    requires { ⌜ Canvas width height margin (now levels) × (length (now sheet) ≡ height * rowBytes width) ⌝ }
+    ensures { λ _. ⌜ now (levels .exit) ≡ startLevels width height margin (now (sheet .entry)) on off ⌝ }
+{
+    let rows = height + (margin + margin);
+    let mut row = 0;
+    while row < rows {
+        fill_row(levels, width, height, margin, sheet, row, on, off);
+        row += 1;
+    }
+}
+
+// Refusals 2 to 7, which both kinds have, or 0.
+fn start_refusal(width: usize, height: usize, sheet: &[u8], side: usize, bytes: &[u8]) -> u32
+    ensures { λ r. ⌜ r ≡ first (sheetRefusals width height (now (sheet .entry)) ++ elementRefusals side (now (bytes .entry))) ⌝ }
+{
+    let refusal = sheet::sheet_refusal(width, height, sheet);
+    if refusal != 0 {
+        return refusal;
+    }
+    element::element_refusal(side, bytes)
+}
+
+// A refusal, with the record all zero.
+fn refused(number: u32) -> Started
+    ensures { λ r. ⌜ (r .refusal ≡ number) × (r .run ≡ noRecord) ⌝ }
+{
+    let run = records::no_record();
+    Started {
+        refusal: number,
+        run: run,
+    }
+}
+
+// The answer of an accepted start, with no rows done.
+fn begun(kind: u8, width: usize, height: usize, cap: usize, side: usize, bytes: &[u8]) -> Started
+    requires { ⌜ (isSide side ≡ true) × (length (now bytes) ≡ side * side) ⌝ }
+    ensures { λ r. ⌜ (r .refusal ≡ 0) × (r .run ≡ startRecord kind width height cap side (now (bytes .entry))) ⌝ }
+{
+    let cells = element::flat_cells(element::cells_of(side, bytes));
+    let run = Record {
+        kind: kind,
+        width: width,
+        height: height,
+        cap: cap,
+        side: side,
+        rows: 0,
+        cells: cells,
+    };
+    Started {
+        refusal: 0,
+        run: run,
+    }
+}
+
+// Public: starts an erosion, its levels 65,535 on the foreground and 0 elsewhere. Refusals 2 to 7, 10.
+pub fn start_erosion(
+    width: usize,
+    height: usize,
+    sheet: &[u8],
+    side: usize,
+    bytes: &[u8],
+    levels: &mut [u16],
+) -> Started
+    ensures { λ r. ⌜ StartsErosion width height (now (sheet .entry)) side (now (bytes .entry)) (now (levels .entry)) (r .refusal) (r .run, now (levels .exit)) ⌝ }
+{
+    let refusal = start_refusal(width, height, sheet, side, bytes);
+    if refusal != 0 {
+        return refused(refusal);
+    }
+    if levels.len() != height * width {
+        return refused(10);
+    }
+    fill_area(levels, width, height, 0, sheet, 65535, 0);
+    begun(1, width, height, 0, side, bytes)
+}
+
+// Public: starts a dilation on the canvas, its levels 1 on the foreground and 65,535 elsewhere. Refusals 2 to 10.
+pub fn start_dilation(
+    width: usize,
+    height: usize,
+    sheet: &[u8],
+    side: usize,
+    bytes: &[u8],
+    cap: usize,
+    levels: &mut [u16],
+) -> Started
+    ensures { λ r. ⌜ StartsDilation width height (now (sheet .entry)) side (now (bytes .entry)) cap (now (levels .entry)) (r .refusal) (r .run, now (levels .exit)) ⌝ }
+{
+    let refusal = start_refusal(width, height, sheet, side, bytes);
+    if refusal != 0 {
+        return refused(refusal);
+    }
+    if 2047 < cap {
+        return refused(8);
+    }
+    let margin = records::margin_of(cap, side);
+    let canvas_width = width + (margin + margin);
+    let canvas_height = height + (margin + margin);
+    if 4096 < canvas_width {
+        return refused(9);
+    }
+    if 4096 < canvas_height {
+        return refused(9);
+    }
+    if levels.len() != canvas_height * canvas_width {
+        return refused(10);
+    }
+    fill_area(levels, width, height, margin, sheet, 1, 65535);
+    begun(2, width, height, cap, side, bytes)
+}
