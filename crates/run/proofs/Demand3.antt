@@ -3,16 +3,20 @@ use Prim.Native.Nat.{ℕ, _+_, _-_, _*_, _≤_, min}
 use native.Mathlib.Omega.{arith}
 use mathlib.Core.Path.{_≡_, sym, ap, _∙_}
 use mathlib.Core.Bool.{Bool, true, false, not, cond}
+use mathlib.Core.Logic.{_≢_}
 use mathlib.Core.List.{List, [], _∷_}
-use lib.Dec.{eqb}
+use lib.Dec.{eqb, ltb}
 use lib.ListN.{length}
-use borrow.Author.Tests.{le-ltb, eq-eqb}
+use borrow.Author.Tests.{le-ltb, eq-eqb, ne-eqb}
+use Rattle.basics.specs.Refusals.{first}
+use Rattle.sheet.specs.Sheets.{rowBytes}
 use Rattle.scan.specs.Scan.{scanRows}
 use Rattle.scan.proofs.ScanLaws.{rows-add, rows-length, rows-none}
 use Rattle.run.specs.declared.Record.{Record}
 use Rattle.run.specs.Records.{areaWidth, areaHeight, areaOf, due, recordBad}
-use Rattle.run.specs.Continuing.{withRows, isDone, continued}
-use Rattle.run.specs.Series.{Started, State, isAccepted, slice, slices, allowed, unbroken, CutsDoNotShow}
+use Rattle.run.specs.Continuing.{levelsWrong, withRows, isDone, continued}
+use Rattle.run.specs.Pictures.{sizeLimit}
+use Rattle.run.specs.Series.{Started, State, isAccepted, slice, slices, allowed, unbroken, CutsDoNotShow, NoneReleased, UnfinishedRefused}
 use Rattle.run.proofs.Started.{IsStart, is-start, foreign-rows}
 
 module _ (r : Record) (levels : List ℕ) (s : IsStart r levels) where
@@ -67,3 +71,34 @@ unfolding isAccepted recordBad
 accepted-exactly r levels started n within allowance small =
     let s = is-start started in
     rw (foreign-rows r n, s .taken, le-ltb (due r) n within, eq-eqb (length (scanRows (areaOf r) 0 n levels)) (areaHeight r * areaWidth r) (rows-length (areaOf r) 0 n levels ∙ s .size), le-ltb 8192 allowance small)
+
+-- no picture before all rows are done
+pub unfinished-refused : UnfinishedRefused
+unfinished-refused r e levels size out = (
+  rw e (four (recordBad r) (levelsWrong r levels) (not (eqb (length out) (r .height * r .width)))),
+  rw e (five (recordBad r) (ltb (sizeLimit r) size) (levelsWrong r levels) (not (eqb (length out) (r .height * rowBytes (r .width))))),
+)
+  where
+    four : (a b c : Bool) → first ((1, a) ∷ (10, b) ∷ (11, c) ∷ (13, true) ∷ []) ≢ 0
+    four true b c z = absurd (omega arith)
+    four false true c z = absurd (omega arith)
+    four false false true z = absurd (omega arith)
+    four false false false z = absurd (omega arith)
+
+    five : (a b c d : Bool) → first ((1, a) ∷ (8, b) ∷ (10, c) ∷ (11, d) ∷ (13, true) ∷ []) ≢ 0
+    five true b c d z = absurd (omega arith)
+    five false true c d z = absurd (omega arith)
+    five false false true d z = absurd (omega arith)
+    five false false false true z = absurd (omega arith)
+    five false false false false z = absurd (omega arith)
+
+pub none-released : NoneReleased
+unfolding recordBad
+none-released r levels started n within size small =
+    let s = is-start started in
+    let l = eq-eqb (length (scanRows (areaOf r) 0 n levels)) (areaHeight r * areaWidth r) (rows-length (areaOf r) 0 n levels ∙ s .size) in
+    let d = ne-eqb n (due r) (λ e. absurd (omega arith)) in
+    let b = le-ltb (due r) n (let h : n ≤ due r = omega arith in h) in (
+      (λ out q. rw (foreign-rows r n, s .taken, b, l, eq-eqb (length out) (r .height * r .width) q, d)),
+      (λ out q. rw (foreign-rows r n, s .taken, b, le-ltb (sizeLimit r) size small, l, eq-eqb (length out) (r .height * rowBytes (r .width)) q, d)),
+    )

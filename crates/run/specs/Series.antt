@@ -1,14 +1,18 @@
 -- Demand 3: a run that a batch system cuts into slices, a series of allowances, each with the record last returned and the run's own levels.
-use Prim.Native.Nat.{ℕ, _+_, min}
+use Prim.Native.Nat.{ℕ, _+_, _*_, _≤_, _<_, min}
 use mathlib.Core.Path.{_≡_}
-use mathlib.Core.Bool.{Bool, cond}
+use mathlib.Core.Logic.{_≢_}
+use mathlib.Core.Bool.{Bool, false, cond}
 use mathlib.Core.List.{List, [], _∷_}
 use lib.Dec.{eqb}
+use lib.ListN.{length}
 use Rattle.basics.specs.Refusals.{first}
+use Rattle.sheet.specs.Sheets.{rowBytes}
 use Rattle.scan.specs.Scan.{scanRows}
 use Rattle.run.specs.declared.Record.{Record}
 use Rattle.run.specs.Records.{areaOf, due}
 use Rattle.run.specs.Starting.{StartsErosion, StartsDilation}
+use Rattle.run.specs.Pictures.{sizeLimit, collectRefusals, thresholdRefusals}
 use Rattle.run.specs.Continuing.{continueRefusals, continued, withRows, isDone}
 
 -- a record and levels that an accepted start gives
@@ -45,3 +49,15 @@ abbrev pub CutsDoNotShow : Type 0
 CutsDoNotShow =
     (r : Record) (levels : List ℕ) → Started r levels → (series : List ℕ) →
     slices (r, isDone r, levels) series ≡ unbroken r levels (min (allowed (r, isDone r, levels) series) (due r))
+
+-- before all rows are done no picture is released: collecting and thresholding refuse, and with everything else in order they give 13
+abbrev pub NoneReleased : Type 0
+NoneReleased =
+    (r : Record) (levels : List ℕ) → Started r levels → (n : ℕ) → n < due r → (size : ℕ) → size ≤ sizeLimit r →
+    ((out : List ℕ) → length out ≡ r .height * r .width → first (collectRefusals (withRows r n) (scanRows (areaOf r) 0 n levels) out) ≡ 13) ×
+    ((out : List ℕ) → length out ≡ r .height * rowBytes (r .width) → first (thresholdRefusals (withRows r n) (scanRows (areaOf r) 0 n levels) size out) ≡ 13)
+
+abbrev pub UnfinishedRefused : Type 0
+UnfinishedRefused =
+    (r : Record) → isDone r ≡ false → (levels : List ℕ) (size : ℕ) (out : List ℕ) →
+    (first (collectRefusals r levels out) ≢ 0) × (first (thresholdRefusals r levels size out) ≢ 0)
