@@ -44,7 +44,7 @@ use Rattle.run.proofs.Started.{is-start, length-start, erosion-parts, d
 use Rattle.run.proofs.StartLevels.{level-on, level-off, place-down}
 
 -- the record's cells mean the element
-same-set : (side : ℕ) (bytes : List ℕ) → Accepted side bytes → elementSet 7 (flat (centred side bytes)) ≈ elementSet side bytes
+pub same-set : (side : ℕ) (bytes : List ℕ) → Accepted side bytes → elementSet 7 (flat (centred side bytes)) ≈ elementSet side bytes
 same-set side bytes given =
     let f = flat-means (centred side bytes) in
     let c = centred-means side bytes (given .side-is) in
@@ -90,7 +90,7 @@ module _ (width height : ℕ) (sheet : List ℕ) (side : ℕ) (bytes : List ℕ)
       let m = no-margin in
       ap₂ at (place-down row (margin r) (omega arith) ∙ ap (λ (n : ℕ). pos n) (let e : row - margin r ≡ row = omega arith in e)) (place-down col (margin r) (omega arith) ∙ ap (λ (n : ℕ). pos n) (let e : col - margin r ≡ col = omega arith in e))
 
-  erosion-start : ErosionStart (areaOf r) A K start
+  pub erosion-start : ErosionStart (areaOf r) A K start
   erosion-start =
       let w = s .area-wide in
       let h = s .area-high in
@@ -171,7 +171,7 @@ module _ (width height : ℕ) (sheet : List ℕ) (side : ℕ) (bytes : List ℕ)
   odd : side % 2 ≡ 1
   odd = let b = side-bounds side (given .side-is) in omega arith
 
-  dilation-start : DilationStart (areaOf r₂) width height R (reach side) A₂ K₂ start₂
+  pub dilation-start : DilationStart (areaOf r₂) width height R (reach side) A₂ K₂ start₂
   dilation-start =
       let p = partners-dilation r₂ s refl in
       let k = same-set side bytes given in

@@ -55,7 +55,7 @@ module _ {r : Record} (s : Sound r) where
       rw q (ap (λ f. raster (r .width) (r .height) f) (fun-ext (λ row. fun-ext (λ col. collected-level limit e (levelIn (r .width) (margin r) levels row col)))))
 
   -- a level between the bounds is a level held
-  held-level : (n : ℕ) → n ≤ 4096 → (low high : ℕ) → low ≡ cond (isErosion r) n 0 → high ≡ cond (isErosion r) none (n + 1) → (level : ℕ) → heldBetween low high level ≡ cond (isHeldAt r n level) 1 0
+  pub held-level : (n : ℕ) → n ≤ 4096 → (low high : ℕ) → low ≡ cond (isErosion r) n 0 → high ≡ cond (isErosion r) none (n + 1) → (level : ℕ) → heldBetween low high level ≡ cond (isHeldAt r n level) 1 0
   unfolding heldBetween
   held-level n l low high a b level = rw (a, b) (go (isErosion r))
     where

@@ -95,7 +95,7 @@ pub fn collect(run: Record, levels: &[u16], out: &mut [u16]) -> u32
 }
 
 // Whether a level is above `low` and at most `high`, as 1 or 0.
-fn held(level: u16, low: u16, high: u16) -> u8
+pub fn held(level: u16, low: u16, high: u16) -> u8
     ensures { λ r. ⌜ r ≡ heldBetween low high level ⌝ }
 {
     if level <= low {
@@ -193,7 +193,7 @@ fn size_limit(run: Record) -> usize
 }
 
 // A held level is above this: the size itself for an erosion, 0 for a dilation.
-fn below_held(run: Record, size: usize) -> u16
+pub fn below_held(run: Record, size: usize) -> u16
     requires { ⌜ size ≤ 4096 ⌝ }
     ensures { λ r. ⌜ r ≡ cond (isErosion run) size 0 ⌝ }
 {
@@ -204,7 +204,7 @@ fn below_held(run: Record, size: usize) -> u16
 }
 
 // A held level is at most this: any for an erosion, the size and one for a dilation.
-fn highest_held(run: Record, size: usize) -> u16
+pub fn highest_held(run: Record, size: usize) -> u16
     requires { ⌜ size ≤ 4096 ⌝ }
     ensures { λ r. ⌜ r ≡ cond (isErosion run) 65535 (size + 1) ⌝ }
 {

@@ -114,7 +114,7 @@ fn fill_area(
 }
 
 // Refusals 2 to 7, which both kinds have, or 0.
-fn start_refusal(width: usize, height: usize, sheet: &[u8], side: usize, bytes: &[u8]) -> u32
+pub fn start_refusal(width: usize, height: usize, sheet: &[u8], side: usize, bytes: &[u8]) -> u32
     ensures { λ r. ⌜ r ≡ first (sheetRefusals width height (now (sheet .entry)) ++ elementRefusals side (now (bytes .entry))) ⌝ }
 {
     let refusal = sheet::sheet_refusal(width, height, sheet);

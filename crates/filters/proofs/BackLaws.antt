@@ -1,0 +1,98 @@
+-- The way back, of either kind: its record is sound, its area is the first run's, and its start stands on the set that the first run holds.
+use Prim.Native.Nat.{ℕ, suc, _+_, _*_, _≤_, _<_}
+use native.Mathlib.Nat.{zero-mul}
+use native.Mathlib.Omega.{arith}
+use mathlib.Core.Path.{_≡_, refl, sym, ap, ap₂, _∙_}
+use mathlib.Core.Bool.{Bool, true, false, cond, _&&_, _||_, false≢true}
+use mathlib.Core.Logic.{_↔_}
+use mathlib.Core.List.{List}
+use lib.Dec.{leb}
+use lib.ListN.{length, getD}
+use borrow.Author.Tests.{ne-eqb, le-ltb, le-leb, leb-true}
+use Rattle.basics.proofs.TableLaws.{length-table, getD-table}
+use Rattle.grid.specs.Points.{Point}
+use Rattle.grid.specs.Sets.{PointSet}
+use Rattle.grid.specs.Figures.{reach}
+use Rattle.sheet.specs.Sheets.{isSideOut}
+use Rattle.scan.specs.Look.{look}
+use Rattle.scan.proofs.LookLaws.{spot, look-inside, place-in}
+use Rattle.run.specs.declared.Record.{Record}
+use Rattle.run.specs.Records.{isErosion, areaWidth, areaHeight, areaOf, elementForeign, capForeign, foreign}
+use Rattle.run.specs.Pictures.{isHeldAt}
+use Rattle.run.proofs.RecordLaws.{Sound, sound, neither}
+use Rattle.filters.specs.Back.{back, onOf, offOf, backStart}
+
+-- a level from 1 to n + 1, as a test
+pub range-iff : (n level : ℕ) → ((0 < level) × (level ≤ suc n)) ↔ (leb 1 level && leb level (suc n) ≡ true)
+range-iff n level = ((λ h. rw (le-leb 1 level (h .0), le-leb level (suc n) (h .1))), both (leb 1 level) (leb level (suc n)) refl refl)
+  where
+    both : (a b : Bool) → leb 1 level ≡ a → leb level (suc n) ≡ b → a && b ≡ true → (0 < level) × (level ≤ suc n)
+    both true true p q h = (leb-true 1 level p, leb-true level (suc n) q)
+    both true false p q h = absurd (false≢true h)
+    both false b p q h = absurd (false≢true h)
+
+module _ (r : Record) where
+  pub back-width : areaWidth (back r) ≡ areaWidth r
+  back-width = let z = zero-mul (reach (r .side)) in omega arith
+
+  pub back-height : areaHeight (back r) ≡ areaHeight r
+  back-height = let z = zero-mul (reach (r .side)) in omega arith
+
+side-ok : (side : ℕ) → 1 ≤ side → side ≤ 4096 → isSideOut side ≡ false
+unfolding isSideOut
+side-ok side a b = rw (ne-eqb side 0 (λ z. absurd (omega arith)), le-ltb 4096 side b)
+
+-- the way back is a run that a start could give
+pub back-taken : (r : Record) → foreign r ≡ false → foreign (back r) ≡ false
+unfolding foreign capForeign
+back-taken r e =
+    let s = sound r e in
+    let w = s .wide in
+    let h = s .high in
+    let f = neither (isSideOut (r .width) || isSideOut (r .height) || elementForeign (r .side) (r .cells)) (capForeign r) e in
+    let g = neither (isSideOut (r .width) || isSideOut (r .height)) (elementForeign (r .side) (r .cells)) (f .0) in
+    rw (side-ok (areaWidth r) (omega arith) (s .area-wide), side-ok (areaHeight r) (omega arith) (s .area-high), g .1) (cap-taken (isErosion r) s)
+  where
+    cap-taken : (t : Bool) → Sound r → capForeign (record { kind = cond t 2 1; width = areaWidth r; height = areaHeight r; cap = 0; side = r .side; rows = 0; cells = r .cells }) ≡ false
+    cap-taken true s =
+        let z = zero-mul (reach (r .side)) in
+        let a = s .area-wide in
+        let b = s .area-high in
+        rw (le-ltb 4096 (areaWidth (back r)) (omega arith), le-ltb 4096 (areaHeight (back r)) (omega arith))
+    cap-taken false s = refl
+
+-- the start of the way back, where the first run holds the points of S at a size
+module _ (r : Record) (first : List ℕ) (n : ℕ) (S : PointSet) (size : length first ≡ areaHeight r * areaWidth r) (is : (x : Point) → S x ↔ (isHeldAt r n (look (areaOf r) first x) ≡ true)) where
+  pub marks-decide : (x : Point) → Dec (S x)
+  marks-decide x = go (isHeldAt r n (look (areaOf r) first x)) refl
+    where
+      go : (t : Bool) → isHeldAt r n (look (areaOf r) first x) ≡ t → Dec (S x)
+      go true e = yes (is x .1 e)
+      go false e = no (λ h. false≢true (sym e ∙ is x .0 h))
+
+  pub marks-size : length (backStart r first n) ≡ areaHeight (back r) * areaWidth (back r)
+  unfolding backStart
+  marks-size = length-table (λ k. cond (isHeldAt r n (getD first k 0)) (onOf (back r)) (offOf (back r))) (length first) ∙ size ∙ sym (ap₂ (λ h w. h * w) (back-height r) (back-width r))
+
+  module _ (row col : ℕ) (a : row < areaHeight (back r)) (b : col < areaWidth (back r)) where
+    mark : (t : Bool) → isHeldAt r n (look (areaOf r) first (spot row col)) ≡ t → getD (backStart r first n) (row * areaWidth (back r) + col) 0 ≡ cond t (onOf (back r)) (offOf (back r))
+    unfolding backStart
+    mark t e =
+        let bw = back-width r in
+        let bh = back-height r in
+        let f : ℕ → ℕ = λ k. cond (isHeldAt r n (getD first k 0)) (onOf (back r)) (offOf (back r)) in
+        let l = place-in (areaWidth r) (areaHeight r) row col (omega arith) (omega arith) in
+        ap (λ w. getD (backStart r first n) (row * w + col) 0) bw
+        ∙ getD-table f (length first) (row * areaWidth r + col) 0 (omega arith)
+        ∙ ap (λ v. cond (isHeldAt r n v) (onOf (back r)) (offOf (back r))) (sym (look-inside (areaOf r) first row col (omega arith) (omega arith)))
+        ∙ ap (λ u. cond u (onOf (back r)) (offOf (back r))) e
+
+    pub marks-on : S (spot row col) → getD (backStart r first n) (row * areaWidth (back r) + col) 0 ≡ onOf (back r)
+    marks-on h = mark true (is (spot row col) .0 h)
+
+    pub marks-off : ¬ S (spot row col) → getD (backStart r first n) (row * areaWidth (back r) + col) 0 ≡ offOf (back r)
+    marks-off m = go (isHeldAt r n (look (areaOf r) first (spot row col))) refl
+      where
+        go : (t : Bool) → isHeldAt r n (look (areaOf r) first (spot row col)) ≡ t → getD (backStart r first n) (row * areaWidth (back r) + col) 0 ≡ offOf (back r)
+        go true e = absurd (m (is (spot row col) .1 e))
+        go false e = mark false e

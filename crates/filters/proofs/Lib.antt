@@ -1,0 +1,13 @@
+pub mod Opening
+pub mod Closing
+pub mod BackLaws
+pub mod WayBack
+pub mod Sizes
+pub mod Uniqueness
+pub mod BackSteps
+pub mod FirstRuns
+pub mod Refusing
+pub mod SheetAnswers
+pub mod StoreLaws
+pub mod LevelRounds
+pub mod LevelAnswers

@@ -1,0 +1,35 @@
+-- The way back leaves the second buffer as long as it was.
+use lib.ListN.{replicate}
+use borrow.Author.Needs.{needs}
+use mathlib.Core.Path.{ap, _∙_}
+use Rattle.filters.proofs.back.filter_sheet.Statement.{statement}
+use Rattle.filters.proofs.back.filter_sheet.Tie as tie
+
+sheet-back-requires : tie.Need-sheet-back-requires
+sheet-back-requires c κs = search needs
+
+clear-both-requires : tie.Need-clear-both-requires
+clear-both-requires c κs = search needs
+
+same-length : tie.Need-same-length
+same-length c = search needs
+
+same-length-2 : tie.Need-same-length-2
+same-length-2 c = search needs
+
+same-length-3 : tie.Need-same-length-3
+same-length-3 c = search needs
+
+returns : tie.Need-returns
+returns c = (c .before .before .before .before .clear-both .ensures .0, (c .before .before .before .before .clear-both .ensures .1 ∙ ap (λ n. replicate n 0) (c .before .before .before .before .before .before .before .before .before .before .before .sheet-back .ensures .0), c .before .before .before .before .before .before .before .before .before .before .before .sheet-back .ensures .1))
+
+pub filter-sheet-spec : {M : Type 1} → statement M
+filter-sheet-spec =
+    tie.close
+    (tie.spec
+    sheet-back-requires
+    clear-both-requires
+    same-length
+    same-length-2
+    same-length-3
+    returns)

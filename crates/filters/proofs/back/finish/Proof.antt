@@ -1,0 +1,17 @@
+-- One continue by 8,192 rows is accepted and works all that are due.
+use Rattle.filters.proofs.BackSteps.{finish-rows}
+use borrow.Author.Needs.{needs}
+use Rattle.filters.proofs.back.finish.Statement.{statement}
+use Rattle.filters.proofs.back.finish.Tie as tie
+
+continue-run-requires : tie.Need-continue-run-requires
+continue-run-requires c κs = search needs
+
+same-length : tie.Need-same-length
+same-length c = search needs
+
+returns : tie.Need-returns
+returns c = finish-rows (c .before .before .before .before .before .args .run) (c .before .before .before .before .before .pre .0) (c .before .before .before .before .before .pre .1 .0) (c .before .before .before .before .before .args .levels .now) (c .before .before .before .before .before .pre .1 .1) (c .before .before .continue-run .ensures)
+
+pub finish-spec : {M : Type 1} → statement M
+finish-spec = tie.close (tie.spec continue-run-requires same-length returns)

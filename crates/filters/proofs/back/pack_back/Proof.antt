@@ -1,0 +1,39 @@
+-- The way back's record is sound, so the bounds of its size hold the levels that it holds.
+use Rattle.filters.proofs.BackSteps.{frame-canvas, kept-is}
+use Rattle.run.proofs.RecordLaws.{sound}
+use borrow.Author.Needs.{needs}
+use Rattle.filters.proofs.back.pack_back.Statement.{statement}
+use Rattle.filters.proofs.back.pack_back.Tie as tie
+
+back-run-requires : tie.Need-back-run-requires
+back-run-requires c κs = search needs
+
+margin-of-requires : tie.Need-margin-of-requires
+margin-of-requires c κs = let s = sound (c .before .before .before .args .run) (c .before .before .before .pre .0) in (s .side-is, s .cap-small)
+
+below-held-requires : tie.Need-below-held-requires
+below-held-requires c κs = search needs
+
+highest-held-requires : tie.Need-highest-held-requires
+highest-held-requires c κs = search needs
+
+pack-frame-requires : tie.Need-pack-frame-requires
+pack-frame-requires c κs = (frame-canvas (c .before .before .before .before .before .before .before .args .run) (c .before .before .before .before .before .before .before .pre .0) (c .before .before .before .before .before .before .before .args .second .now) (c .before .before .before .before .before .before .before .pre .1 .0) (c .before .before .before .margin-of .result) (c .before .before .before .margin-of .ensures .0), c .before .before .before .before .before .before .before .pre .1 .1 .1)
+
+same-length : tie.Need-same-length
+same-length c = search needs
+
+returns : tie.Need-returns
+returns c = kept-is (c .before .before .before .before .before .before .before .before .before .before .args .run) (c .before .before .before .before .before .before .before .back-run .result) (c .before .before .before .before .before .before .before .before .before .before .pre .0) (c .before .before .before .before .before .before .before .back-run .ensures) (c .before .before .before .before .before .before .before .before .before .before .args .size) (c .before .before .before .before .before .before .before .before .before .before .pre .1 .1 .0) (c .before .before .before .before .before .below-held .result) (c .before .before .before .before .highest-held .result) (c .before .before .before .before .before .below-held .ensures) (c .before .before .before .before .highest-held .ensures) (c .before .before .before .before .before .before .before .before .before .before .args .second .now) (c .before .before .before .before .before .before .margin-of .result) (c .before .before .before .before .before .before .margin-of .ensures .0) (c .before .before .pack-frame .ensures)
+
+pub pack-back-spec : {M : Type 1} → statement M
+pack-back-spec =
+    tie.close
+    (tie.spec
+    back-run-requires
+    margin-of-requires
+    below-held-requires
+    highest-held-requires
+    pack-frame-requires
+    same-length
+    returns)

@@ -1,0 +1,46 @@
+-- What is marked is the start of the way back, which a start could have given; finishing it is the rest.
+use Rattle.filters.proofs.BackSteps.{back-ready, back-finished}
+use borrow.Author.Needs.{needs}
+use Rattle.filters.proofs.back.way_back.Statement.{statement}
+use Rattle.filters.proofs.back.way_back.Tie as tie
+
+back-run-requires : tie.Need-back-run-requires
+back-run-requires c κs = search needs
+
+below-held-requires : tie.Need-below-held-requires
+below-held-requires c κs = search needs
+
+highest-held-requires : tie.Need-highest-held-requires
+highest-held-requires c κs = search needs
+
+where-one-requires : tie.Need-where-one-requires
+where-one-requires c κs = search needs
+
+where-one-requires-2 : tie.Need-where-one-requires-2
+where-one-requires-2 c κs = search needs
+
+mark-requires : tie.Need-mark-requires
+mark-requires c κs = search needs
+
+finish-requires : tie.Need-finish-requires
+finish-requires c κs = back-ready (c .before .before .before .before .before .before .before .before .before .before .before .before .args .run) (c .before .before .before .before .before .before .before .before .before .before .before .before .pre .0 .taken) (c .before .before .before .before .before .before .before .before .before .before .before .before .args .size) (c .before .before .before .before .before .before .before .before .before .before .before .before .pre .1) (c .before .before .before .before .before .before .before .before .below-held .result) (c .before .before .before .before .before .before .before .highest-held .result) (c .before .before .before .before .before .before .before .before .below-held .ensures) (c .before .before .before .before .before .before .before .highest-held .ensures) (c .before .before .before .before .before .before .before .before .before .back-run .result) (c .before .before .before .before .before .before .before .before .before .back-run .ensures) (c .before .before .before .before .before .before .before .before .before .before .before .before .args .first .now) (c .before .before .before .before .before .before .where-one .result) (c .before .before .before .before .before .where-one2 .result) (c .before .before .before .before .before .before .where-one .ensures) (c .before .before .before .before .before .where-one2 .ensures) (c .before .before .before .mark .ensures) (c .before .before .before .before .before .before .before .before .before .before .before .before .pre .0 .first-size)
+
+same-length : tie.Need-same-length
+same-length c = search needs
+
+returns : tie.Need-returns
+returns c = back-finished (c .before .before .before .before .before .before .before .before .before .before .before .before .before .before .before .args .run) (c .before .before .before .before .before .before .before .before .before .before .before .before .before .before .before .pre .0 .taken) (c .before .before .before .before .before .before .before .before .before .before .before .before .before .before .before .args .size) (c .before .before .before .before .before .before .before .before .before .before .before .before .before .before .before .pre .1) (c .before .before .before .before .before .before .before .before .before .before .before .below-held .result) (c .before .before .before .before .before .before .before .before .before .before .highest-held .result) (c .before .before .before .before .before .before .before .before .before .before .before .below-held .ensures) (c .before .before .before .before .before .before .before .before .before .before .highest-held .ensures) (c .before .before .before .before .before .before .before .before .before .before .before .before .back-run .result) (c .before .before .before .before .before .before .before .before .before .before .before .before .back-run .ensures) (c .before .before .before .before .before .before .before .before .before .before .before .before .before .before .before .args .first .now) (c .before .before .before .before .before .before .before .before .before .where-one .result) (c .before .before .before .before .before .before .before .before .where-one2 .result) (c .before .before .before .before .before .before .before .before .before .where-one .ensures) (c .before .before .before .before .before .before .before .before .where-one2 .ensures) (c .before .before .before .before .before .before .mark .ensures) (c .before .before .finish .ensures)
+
+pub way-back-spec : {M : Type 1} → statement M
+way-back-spec =
+    tie.close
+    (tie.spec
+    back-run-requires
+    below-held-requires
+    highest-held-requires
+    where-one-requires
+    where-one-requires-2
+    mark-requires
+    finish-requires
+    same-length
+    returns)

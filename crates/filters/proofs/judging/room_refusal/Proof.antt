@@ -1,0 +1,73 @@
+-- Each answer follows from the tests that led to it; the sides are small, so that the sizes fit.
+use Rattle.filters.proofs.Refusing.{product-small, room-wide, room-high, room-work, room-spare, room-out, room-enough}
+use Rattle.filters.specs.Back.{entriesOf}
+use borrow.Author.Needs.{needs}
+use native.Mathlib.Omega.{arith}
+use Prim.Native.Nat.{_+_}
+use Rattle.filters.proofs.judging.room_refusal.Statement.{statement}
+use Rattle.filters.proofs.judging.room_refusal.Tie as tie
+
+margin-of-requires : tie.Need-margin-of-requires
+margin-of-requires c κs = search needs
+
+add-canvas-width : tie.Need-add-canvas-width
+add-canvas-width c = search needs
+
+add-canvas-width-2 : tie.Need-add-canvas-width-2
+add-canvas-width-2 c = search needs
+
+add-canvas-height : tie.Need-add-canvas-height
+add-canvas-height c = search needs
+
+add-canvas-height-2 : tie.Need-add-canvas-height-2
+add-canvas-height-2 c = search needs
+
+returns : tie.Need-returns
+returns c = room-wide (c .before .before .args .width) (c .before .before .args .height) (c .before .before .args .cap) (c .before .before .args .side) (c .before .before .args .work) (c .before .before .args .spare) (c .before .before .args .room) (entriesOf (c .before .before .args .packed) (c .before .before .args .width)) (c .before .margin-of .result) (c .before .margin-of .ensures .0) (c .if1 .taken)
+
+returns-2 : tie.Need-returns-2
+returns-2 c = room-high (c .before .before .before .args .width) (c .before .before .before .args .height) (c .before .before .before .args .cap) (c .before .before .before .args .side) (c .before .before .before .args .work) (c .before .before .before .args .spare) (c .before .before .before .args .room) (entriesOf (c .before .before .before .args .packed) (c .before .before .before .args .width)) (c .before .before .margin-of .result) (c .before .before .margin-of .ensures .0) (omega arith) (c .if2 .taken)
+
+mul-if3 : tie.Need-mul-if3
+mul-if3 c = let s = product-small (c .before .before .before .args .height + (c .before .before .margin-of .result + c .before .before .margin-of .result)) (c .before .before .before .args .width + (c .before .before .margin-of .result + c .before .before .margin-of .result)) (omega arith) (omega arith) in omega arith
+
+returns-3 : tie.Need-returns-3
+returns-3 c = room-work (c .before .before .before .before .args .width) (c .before .before .before .before .args .height) (c .before .before .before .before .args .cap) (c .before .before .before .before .args .side) (c .before .before .before .before .args .work) (c .before .before .before .before .args .spare) (c .before .before .before .before .args .room) (entriesOf (c .before .before .before .before .args .packed) (c .before .before .before .before .args .width)) (c .before .before .before .margin-of .result) (c .before .before .before .margin-of .ensures .0) (omega arith) (omega arith) (c .if3 .taken)
+
+mul-if4 : tie.Need-mul-if4
+mul-if4 c = search needs
+
+returns-4 : tie.Need-returns-4
+returns-4 c = room-spare (c .before .before .before .before .before .args .width) (c .before .before .before .before .before .args .height) (c .before .before .before .before .before .args .cap) (c .before .before .before .before .before .args .side) (c .before .before .before .before .before .args .work) (c .before .before .before .before .before .args .spare) (c .before .before .before .before .before .args .room) (entriesOf (c .before .before .before .before .before .args .packed) (c .before .before .before .before .before .args .width)) (c .before .before .before .before .margin-of .result) (c .before .before .before .before .margin-of .ensures .0) (omega arith) (omega arith) (c .before .if3 .left) (c .if4 .taken)
+
+row-entries-requires : tie.Need-row-entries-requires
+row-entries-requires c κs = search needs
+
+mul-if5 : tie.Need-mul-if5
+mul-if5 c = let s = product-small (c .before .before .before .before .before .before .args .height) (c .row-entries .result) (omega arith) (omega arith) in omega arith
+
+returns-5 : tie.Need-returns-5
+returns-5 c = room-out (c .before .before .before .before .before .before .before .args .width) (c .before .before .before .before .before .before .before .args .height) (c .before .before .before .before .before .before .before .args .cap) (c .before .before .before .before .before .before .before .args .side) (c .before .before .before .before .before .before .before .args .work) (c .before .before .before .before .before .before .before .args .spare) (c .before .before .before .before .before .before .before .args .room) (entriesOf (c .before .before .before .before .before .before .before .args .packed) (c .before .before .before .before .before .before .before .args .width)) (c .before .before .before .before .before .before .margin-of .result) (c .before .before .before .before .before .before .margin-of .ensures .0) (omega arith) (omega arith) (c .before .before .before .if3 .left) (c .before .before .if4 .left) (c .before .row-entries .result) (c .before .row-entries .ensures .0) (c .if5 .taken)
+
+returns-6 : tie.Need-returns-6
+returns-6 c = room-enough (c .before .before .before .before .before .before .before .args .width) (c .before .before .before .before .before .before .before .args .height) (c .before .before .before .before .before .before .before .args .cap) (c .before .before .before .before .before .before .before .args .side) (c .before .before .before .before .before .before .before .args .work) (c .before .before .before .before .before .before .before .args .spare) (c .before .before .before .before .before .before .before .args .room) (entriesOf (c .before .before .before .before .before .before .before .args .packed) (c .before .before .before .before .before .before .before .args .width)) (c .before .before .before .before .before .before .margin-of .result) (c .before .before .before .before .before .before .margin-of .ensures .0) (omega arith) (omega arith) (c .before .before .before .if3 .left) (c .before .before .if4 .left) (c .before .row-entries .result) (c .before .row-entries .ensures .0) (c .if5 .left)
+
+pub room-refusal-spec : {M : Type 1} → statement M
+room-refusal-spec =
+    tie.close
+    (tie.spec
+    margin-of-requires
+    add-canvas-width
+    add-canvas-width-2
+    add-canvas-height
+    add-canvas-height-2
+    returns
+    returns-2
+    mul-if3
+    returns-3
+    mul-if4
+    returns-4
+    row-entries-requires
+    mul-if5
+    returns-5
+    returns-6)

@@ -1,0 +1,25 @@
+-- The two steps, one after the other.
+use Rattle.filters.proofs.BackSteps.{after-back}
+use Rattle.filters.specs.Back.{stored}
+use borrow.Author.Needs.{needs}
+use Rattle.filters.proofs.levels.one_size.Statement.{statement}
+use Rattle.filters.proofs.levels.one_size.Tie as tie
+
+way-back-requires : tie.Need-way-back-requires
+way-back-requires c κs = search needs
+
+store-held-requires : tie.Need-store-held-requires
+store-held-requires c κs = search needs
+
+same-length : tie.Need-same-length
+same-length c = search needs
+
+same-length-2 : tie.Need-same-length-2
+same-length-2 c = search needs
+
+returns : tie.Need-returns
+returns c = after-back (c .before .before .before .before .before .before .before .before .before .before .before .before .args .size) (λ l. stored (c .before .before .before .before .before .before .before .before .before .before .before .before .args .run) l (c .before .before .before .before .before .before .before .before .before .before .before .before .args .size) (c .before .before .before .before .before .before .before .before .before .before .before .before .args .out .now)) (c .before .before .before .before .before .before .before .before .before .before .before .before .pre .0) (c .before .before .before .before .before .before .before .way-back .ensures) (c .before .before .store-held .ensures)
+
+pub one-size-spec : {M : Type 1} → statement M
+one-size-spec =
+    tie.close (tie.spec way-back-requires store-held-requires same-length same-length-2 returns)

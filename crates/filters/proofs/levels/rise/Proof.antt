@@ -1,0 +1,53 @@
+-- The loop's invariant: the sizes below n are gone through.
+use Rattle.filters.proofs.StoreLaws.{Rises, rises-start, rises-turn, rises-end}
+use borrow.Author.Needs.{needs}
+use native.Mathlib.Omega.{arith}
+use Prim.Native.Nat.{_-_}
+use mathlib.Core.Path.{sym, _∙_}
+use Rattle.filters.proofs.levels.rise.Statement.{statement}
+use Rattle.filters.proofs.levels.rise.Tie as tie
+
+abbrev Inv-loop : tie.InvT-loop
+Inv-loop run count first second₀ out₀ n₀ second out n = Rises run first second₀ out₀ count n second out
+
+abbrev μ-loop : tie.MeasureT-loop
+μ-loop run count first second₀ out₀ n₀ second out n = count - n
+
+loop-holds : tie.Need-loop-holds Inv-loop μ-loop
+loop-holds c = rises-start (c .before .before .before .pre .0) (c .before .before .before .pre .1 .1)
+
+one-size-requires : tie.Need-one-size-requires Inv-loop μ-loop
+one-size-requires c κs = (c .before .before .before .loop .inv .given, (let b = c .before .before .before .loop .inv .below in let s = c .before .before .before .before .before .before .before .pre .1 .0 in omega arith, c .before .before .before .loop .inv .room))
+
+add-n : tie.Need-add-n Inv-loop μ-loop
+add-n c = search needs
+
+loop-less : tie.Need-loop-less Inv-loop μ-loop
+loop-less c = omega (arith, c .before .before .before .before .before .before .before .loop-test .taken)
+
+loop-again : tie.Need-loop-again Inv-loop μ-loop
+loop-again c = rises-turn (c .before .before .before .before .before .before .before .before .loop .inv) (c .before .before .before .before .before .before .before .loop-test .taken) (c .before .before .before .before .one-size .ensures)
+
+same-length : tie.Need-same-length Inv-loop μ-loop
+same-length c = c .before .loop .inv .given .second-size ∙ sym (c .before .before .before .before .before .pre .0 .second-size)
+
+same-length-2 : tie.Need-same-length-2 Inv-loop μ-loop
+same-length-2 c = c .before .loop .inv .room ∙ sym (c .before .before .before .before .before .pre .1 .1)
+
+returns : tie.Need-returns Inv-loop μ-loop
+returns c = rises-end (c .before .loop .inv) (omega arith)
+
+pub rise-spec : {M : Type 1} → statement M
+rise-spec =
+    tie.close
+    (tie.spec
+    Inv-loop
+    μ-loop
+    loop-holds
+    one-size-requires
+    add-n
+    loop-less
+    loop-again
+    same-length
+    same-length-2
+    returns)

@@ -1,0 +1,48 @@
+-- The way back's record is sound, so the bounds of its size hold the levels that it holds.
+use Rattle.filters.proofs.StoreLaws.{stored-is}
+use Rattle.filters.proofs.BackSteps.{frame-canvas}
+use Rattle.run.proofs.RecordLaws.{sound}
+use borrow.Author.Needs.{needs}
+use Rattle.filters.proofs.levels.store_held.Statement.{statement}
+use Rattle.filters.proofs.levels.store_held.Tie as tie
+
+back-run-requires : tie.Need-back-run-requires
+back-run-requires c κs = search needs
+
+margin-of-requires : tie.Need-margin-of-requires
+margin-of-requires c κs = let s = sound (c .before .before .before .args .run) (c .before .before .before .pre .0) in (s .side-is, s .cap-small)
+
+below-held-requires : tie.Need-below-held-requires
+below-held-requires c κs = search needs
+
+highest-held-requires : tie.Need-highest-held-requires
+highest-held-requires c κs = search needs
+
+cast-value : tie.Need-cast-value
+cast-value c = search needs
+
+add-value : tie.Need-add-value
+add-value c = search needs
+
+store-rows-requires : tie.Need-store-rows-requires
+store-rows-requires c κs = (frame-canvas (c .before .before .before .before .before .before .before .args .run) (c .before .before .before .before .before .before .before .pre .0) (c .before .before .before .before .before .before .before .args .second .now) (c .before .before .before .before .before .before .before .pre .1 .0) (c .before .before .before .margin-of .result) (c .before .before .before .margin-of .ensures .0), c .before .before .before .before .before .before .before .pre .1 .1 .1)
+
+same-length : tie.Need-same-length
+same-length c = search needs
+
+returns : tie.Need-returns
+returns c = stored-is (c .before .before .before .before .before .before .before .before .before .before .args .run) (c .before .before .before .before .before .before .before .back-run .result) (c .before .before .before .before .before .before .before .before .before .before .pre .0) (c .before .before .before .before .before .before .before .back-run .ensures) (c .before .before .before .before .before .before .before .before .before .before .args .size) (c .before .before .before .before .before .before .before .before .before .before .pre .1 .1 .0) (c .before .before .before .before .before .below-held .result) (c .before .before .before .before .highest-held .result) (c .before .before .before .before .before .below-held .ensures) (c .before .before .before .before .highest-held .ensures) (c .before .before .before .before .before .before .before .before .before .before .args .second .now) (c .before .before .before .before .before .before .before .before .before .before .args .out .now) (c .before .before .before .before .before .before .margin-of .result) (c .before .before .before .before .before .before .margin-of .ensures .0) (c .before .before .store-rows .ensures)
+
+pub store-held-spec : {M : Type 1} → statement M
+store-held-spec =
+    tie.close
+    (tie.spec
+    back-run-requires
+    margin-of-requires
+    below-held-requires
+    highest-held-requires
+    cast-value
+    add-value
+    store-rows-requires
+    same-length
+    returns)

@@ -1,0 +1,84 @@
+-- The loop's invariant: the first i levels of the stretch are stored, the others are as they were.
+use Rattle.filters.proofs.StoreLaws.{Storing, storing-start, storing-turn, storing-end}
+use borrow.Author.Needs.{needs}
+use native.Mathlib.Omega.{arith}
+use Prim.Native.Nat.{_-_}
+use Rattle.filters.proofs.levels.store_row.Statement.{statement}
+use Rattle.filters.proofs.levels.store_row.Tie as tie
+
+abbrev Inv-loop : tie.InvT-loop
+Inv-loop levels from n low high value out₀ at i₀ out i = Storing levels from n low high value at i out₀ out
+
+abbrev μ-loop : tie.MeasureT-loop
+μ-loop levels from n low high value out₀ at i₀ out i = n - i
+
+loop-holds : tie.Need-loop-holds Inv-loop μ-loop
+loop-holds c = storing-start
+
+add-choose : tie.Need-add-choose Inv-loop μ-loop
+add-choose c = search needs
+
+mul-choose : tie.Need-mul-choose Inv-loop μ-loop
+mul-choose c = search needs
+
+shared-slice-read-choose : tie.Need-shared-slice-read-choose Inv-loop μ-loop
+shared-slice-read-choose c = search needs
+
+add-choose-2 : tie.Need-add-choose-2 Inv-loop μ-loop
+add-choose-2 c = search needs
+
+mul-choose-2 : tie.Need-mul-choose-2 Inv-loop μ-loop
+mul-choose-2 c = search needs
+
+slice-read-choose : tie.Need-slice-read-choose Inv-loop μ-loop
+slice-read-choose c = let s = c .before .before .before .loop .inv .patch .size in omega arith
+
+choose-requires : tie.Need-choose-requires Inv-loop μ-loop
+choose-requires c κs = search needs
+
+add-out : tie.Need-add-out Inv-loop μ-loop
+add-out c = search needs
+
+mul-out : tie.Need-mul-out Inv-loop μ-loop
+mul-out c = search needs
+
+slice-write-out : tie.Need-slice-write-out Inv-loop μ-loop
+slice-write-out c = let s = c .before .before .before .before .loop .inv .patch .size in omega arith
+
+add-i : tie.Need-add-i Inv-loop μ-loop
+add-i c = search needs
+
+loop-less : tie.Need-loop-less Inv-loop μ-loop
+loop-less c = omega (arith, c .before .before .before .loop-test .taken)
+
+loop-again : tie.Need-loop-again Inv-loop μ-loop
+loop-again c = storing-turn (c .before .before .before .before .loop .inv) (c .before .before .before .loop-test .taken) (c .before .before .before .before .before .before .before .pre .1) (c .choose .result) (c .choose .ensures)
+
+same-length : tie.Need-same-length Inv-loop μ-loop
+same-length c = c .before .loop .inv .patch .size
+
+returns : tie.Need-returns Inv-loop μ-loop
+returns c = storing-end (c .before .loop .inv) (omega arith)
+
+pub store-row-spec : {M : Type 1} → statement M
+store-row-spec =
+    tie.close
+    (tie.spec
+    Inv-loop
+    μ-loop
+    loop-holds
+    add-choose
+    mul-choose
+    shared-slice-read-choose
+    add-choose-2
+    mul-choose-2
+    slice-read-choose
+    choose-requires
+    add-out
+    mul-out
+    slice-write-out
+    add-i
+    loop-less
+    loop-again
+    same-length
+    returns)

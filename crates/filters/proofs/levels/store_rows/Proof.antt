@@ -1,0 +1,74 @@
+-- The loop's invariant: the rows above are stored.
+use Rattle.filters.proofs.StoreLaws.{storedLevel, stored-row}
+use Rattle.run.proofs.PatchLaws.{Rows, rows-none, rows-all, row-end, frame-room}
+use Rattle.filters.proofs.Refusing.{product-small}
+use borrow.Author.Needs.{needs}
+use native.Mathlib.Omega.{arith}
+use Prim.Native.Nat.{_-_, _≤_}
+use Rattle.filters.proofs.levels.store_rows.Statement.{statement}
+use Rattle.filters.proofs.levels.store_rows.Tie as tie
+
+abbrev Inv-loop : tie.InvT-loop
+Inv-loop levels width height margin low high value out₀ side row₀ out row = (row ≤ height) × Rows width (storedLevel width margin levels low high value out₀) row out₀ out
+
+abbrev μ-loop : tie.MeasureT-loop
+μ-loop levels width height margin low high value out₀ side row₀ out row = height - row
+
+add-side : tie.Need-add-side Inv-loop μ-loop
+add-side c = search needs
+
+add-side-2 : tie.Need-add-side-2 Inv-loop μ-loop
+add-side-2 c = search needs
+
+loop-holds : tie.Need-loop-holds Inv-loop μ-loop
+loop-holds c = (omega arith, rows-none)
+
+add-store-row : tie.Need-add-store-row Inv-loop μ-loop
+add-store-row c = search needs
+
+mul-store-row : tie.Need-mul-store-row Inv-loop μ-loop
+mul-store-row c = let s = frame-room (c .before .before .before .before .pre .0) (c .before .loop .row) (c .loop-test .taken) in omega arith
+
+add-store-row-2 : tie.Need-add-store-row-2 Inv-loop μ-loop
+add-store-row-2 c = let s = frame-room (c .before .before .before .before .pre .0) (c .before .loop .row) (c .loop-test .taken) in omega arith
+
+mul-store-row-2 : tie.Need-mul-store-row-2 Inv-loop μ-loop
+mul-store-row-2 c = let s = row-end (c .before .before .before .before .before .args .width) (c .before .before .before .before .before .args .height) (c .before .before .loop .row) (c .before .loop-test .taken) in let e = c .before .before .before .before .before .pre .1 in let m = product-small (c .before .before .before .before .before .args .height) (c .before .before .before .before .before .args .width) (omega arith) (omega arith) in omega arith
+
+store-row-requires : tie.Need-store-row-requires Inv-loop μ-loop
+store-row-requires c κs = let s = frame-room (c .before .before .before .before .before .pre .0) (c .before .before .loop .row) (c .before .loop-test .taken) in let t = row-end (c .before .before .before .before .before .args .width) (c .before .before .before .before .before .args .height) (c .before .before .loop .row) (c .before .loop-test .taken) in let long = c .before .before .loop .inv .1 .filled .size in (omega arith, omega arith)
+
+add-row : tie.Need-add-row Inv-loop μ-loop
+add-row c = search needs
+
+loop-less : tie.Need-loop-less Inv-loop μ-loop
+loop-less c = omega arith
+
+loop-again : tie.Need-loop-again Inv-loop μ-loop
+loop-again c = (omega arith, stored-row (c .before .before .before .before .before .before .before .before .args .width) (c .before .before .before .before .before .before .before .before .args .margin) (c .before .before .before .before .before .before .before .before .args .levels .now) (c .before .before .before .before .before .before .before .before .args .low) (c .before .before .before .before .before .before .before .before .args .high) (c .before .before .before .before .before .before .before .before .args .value) (c .before .before .before .before .before .loop .inv .1) (c .before .before .store-row .ensures))
+
+same-length : tie.Need-same-length Inv-loop μ-loop
+same-length c = c .before .loop .inv .1 .filled .size
+
+returns : tie.Need-returns Inv-loop μ-loop
+returns c = rows-all (c .before .loop .inv .1) (c .before .before .before .before .args .height) (omega arith) (c .before .before .before .before .pre .1)
+
+pub store-rows-spec : {M : Type 1} → statement M
+store-rows-spec =
+    tie.close
+    (tie.spec
+    Inv-loop
+    μ-loop
+    add-side
+    add-side-2
+    loop-holds
+    add-store-row
+    mul-store-row
+    add-store-row-2
+    mul-store-row-2
+    store-row-requires
+    add-row
+    loop-less
+    loop-again
+    same-length
+    returns)

@@ -1,0 +1,90 @@
+-- The way back from a finished run: an opening dilates what an erosion left, a closing erodes what a dilation gave, on all of the area that the run worked on.
+use Prim.Native.Nat.{ℕ, zero, suc, _+_, _*_, _≤_, _<_}
+use mathlib.Core.Path.{_≡_}
+use mathlib.Core.Bool.{Bool, false, not, cond, _||_}
+use mathlib.Core.List.{List, [], _∷_, _++_}
+use lib.Dec.{eqb}
+use lib.ListN.{length, getD, replicate}
+use Rattle.basics.specs.Refusals.{Refusal}
+use Rattle.basics.specs.Tables.{table, raster}
+use Rattle.element.specs.Elements.{elementRefusals}
+use Rattle.sheet.specs.Sheets.{rowBytes, packed, sheetRefusals}
+use Rattle.row.specs.RowRule.{none}
+use Rattle.run.specs.declared.Record.{Record}
+use Rattle.run.specs.Records.{isErosion, areaWidth, areaHeight, foreign}
+use Rattle.run.specs.Patches.{heldBetween}
+use Rattle.run.specs.Pictures.{frameLevel, isHeldAt}
+use Rattle.run.specs.Demand2.{finished}
+use Rattle.filters.specs.Filters.{canvasSize, canvasWrong}
+
+-- the run of the other kind; its frame is the whole area, so it has no margin of its own
+abbrev pub back : Record → Record
+back r = record { kind = cond (isErosion r) 2 1; width = areaWidth r; height = areaHeight r; cap = 0; side = r .side; rows = 0; cells = r .cells }
+
+-- what a run of its kind starts with, on its set and off it
+abbrev pub onOf : Record → ℕ
+onOf r = cond (isErosion r) none 1
+
+abbrev pub offOf : Record → ℕ
+offOf r = cond (isErosion r) 0 none
+
+-- it starts with the points that the first run holds at a size
+unfoldable pub backStart : Record → List ℕ → ℕ → List ℕ
+backStart r levels n = table (length levels) (λ k. cond (isHeldAt r n (getD levels k 0)) (onOf (back r)) (offOf (back r)))
+
+-- the levels after all its rows
+abbrev pub wayBack : Record → List ℕ → ℕ → List ℕ
+wayBack r levels n = finished (back r) (backStart r levels n)
+
+-- the packed sheet of the frame's points that are held after the way back
+unfoldable pub keptSheet : Record → List ℕ → ℕ → List ℕ
+keptSheet r second n = packed (r .width) (r .height) (λ row col. cond (isHeldAt (back r) n (frameLevel r second row col)) 1 0)
+
+-- the frame's points that are held after the way back get the size and one as their level, the others keep theirs
+unfoldable pub stored : Record → List ℕ → ℕ → List ℕ → List ℕ
+stored r second n out = raster (r .width) (r .height) (λ row col. cond (isHeldAt (back r) n (frameLevel r second row col)) (n + 1) (getD out (row * r .width + col) 0))
+
+-- so for the sizes 0 to n - 1, upwards and downwards
+unfoldable pub rising : Record → List ℕ → ℕ → List ℕ → List ℕ
+rising r levels zero out = out
+rising r levels (suc n) out = stored r (wayBack r levels n) n (rising r levels n out)
+
+unfoldable pub falling : Record → List ℕ → ℕ → List ℕ → List ℕ
+falling r levels zero out = out
+falling r levels (suc n) out = falling r levels n (stored r (wayBack r levels n) n out)
+
+-- m is the highest of the first k levels
+pub record Highest (levels : List ℕ) (k m : ℕ) : Type 0 where
+  pub all : (j : ℕ) → j < k → getD levels j 0 ≤ m
+  pub least : (bound : ℕ) → ((j : ℕ) → j < length levels → getD levels j 0 ≤ bound) → m ≤ bound
+
+-- all sizes below the highest level, upwards, over levels that are 0
+pub record Risen (r : Record) (first before after : List ℕ) : Type 0 where
+  pub most : ℕ
+  pub highest : Highest first (length first) most
+  pub is : after ≡ rising r first most (replicate (length before) 0)
+
+-- a finished run, its levels in the first work buffer, and as large a second one
+pub record Ready (r : Record) (first second : List ℕ) : Type 0 where
+  pub taken : foreign r ≡ false
+  pub first-size : length first ≡ areaHeight r * areaWidth r
+  pub second-size : length second ≡ areaHeight r * areaWidth r
+
+-- on where a level is above low and at most high, else off
+abbrev pub chosen : ℕ → ℕ → ℕ → ℕ → ℕ → ℕ
+chosen low high on off level = cond (eqb (heldBetween low high level) 1) on off
+
+-- what all four calls are refused for, by the lengths of the buffers lent: `bad` is their own 8, and the output has `entries` to a row
+abbrev pub roomRefusals : ℕ → ℕ → ℕ → ℕ → ℕ → ℕ → ℕ → ℕ → List Refusal
+roomRefusals width height cap side first second out entries =
+    (9, canvasWrong width height cap side) ∷
+    (10, not (eqb first (canvasSize width height cap side)) || not (eqb second (canvasSize width height cap side))) ∷
+    (11, not (eqb out (height * entries))) ∷ []
+
+abbrev pub filterRefusals : ℕ → ℕ → List ℕ → ℕ → List ℕ → Bool → ℕ → ℕ → ℕ → ℕ → ℕ → List Refusal
+filterRefusals width height sheet side bytes bad cap first second out entries =
+    sheetRefusals width height sheet ++ (elementRefusals side bytes ++ (8, bad) ∷ roomRefusals width height cap side first second out entries)
+
+-- the entries of a row of a packed sheet, or of levels
+abbrev pub entriesOf : Bool → ℕ → ℕ
+entriesOf sheet width = cond sheet (rowBytes width) width
