@@ -1,0 +1,95 @@
+//! Links the verified library (see `rust/build.rs`), compiles the C scans, and compiles the shims over OpenCV and
+//! leptonica where these are installed; else stubs that say so.
+
+use std::env;
+use std::path::{Path, PathBuf};
+use std::process::Command;
+
+fn main() {
+    let directory = env::var_os("WALUGTIRIM_LIB_DIR").map_or_else(
+        || PathBuf::from(env!("CARGO_MANIFEST_DIR")).join("../target/staticlib"),
+        PathBuf::from,
+    );
+    println!("cargo:rerun-if-env-changed=WALUGTIRIM_LIB_DIR");
+    println!(
+        "cargo:rerun-if-changed={}",
+        directory.join("libharness.a").display()
+    );
+    println!("cargo:rerun-if-changed=c");
+    println!("cargo:rustc-link-search=native={}", directory.display());
+    println!("cargo:rustc-link-lib=static=harness");
+
+    let c = env::var("CC").unwrap_or_else(|_| "cc".to_string());
+    let cxx = env::var("CXX").unwrap_or_else(|_| "c++".to_string());
+    for name in ["plain", "tuned", "clock"] {
+        assert!(
+            compile(&c, &format!("{name}.c"), &format!("bench_{name}"), &[]),
+            "can't compile c/{name}.c"
+        );
+    }
+
+    let opencv_flags = flags_of("opencv4", "-I/usr/include/opencv4");
+    if compile(&cxx, "opencv.cpp", "opencv_shim", &opencv_flags) {
+        for library in ["opencv_imgproc", "opencv_core", "stdc++"] {
+            println!("cargo:rustc-link-lib={library}");
+        }
+    } else {
+        let stub = ["-DNOT_INSTALLED".to_string()];
+        assert!(
+            compile(&cxx, "opencv.cpp", "opencv_shim", &stub),
+            "can't compile c/opencv.cpp"
+        );
+    }
+
+    let leptonica_flags = flags_of("lept", "-I/usr/include");
+    if compile(&c, "leptonica.c", "leptonica_shim", &leptonica_flags) {
+        println!("cargo:rustc-link-lib=lept");
+    } else {
+        let stub = ["-DNOT_INSTALLED".to_string()];
+        assert!(
+            compile(&c, "leptonica.c", "leptonica_shim", &stub),
+            "can't compile c/leptonica.c"
+        );
+    }
+}
+
+/// What pkg-config says is needed to find a library's headers, or where Debian has them.
+fn flags_of(package: &str, otherwise: &str) -> Vec<String> {
+    let answer = Command::new("pkg-config")
+        .args(["--cflags", package])
+        .output();
+    match answer {
+        Ok(answer) if answer.status.success() => String::from_utf8_lossy(&answer.stdout)
+            .split_whitespace()
+            .map(str::to_string)
+            .collect(),
+        _ => vec![otherwise.to_string()],
+    }
+}
+
+/// Compiles one file into an archive of its own and links that; answers whether it could be compiled.
+fn compile(compiler: &str, file: &str, archive: &str, flags: &[String]) -> bool {
+    let out = PathBuf::from(env::var_os("OUT_DIR").expect("cargo sets OUT_DIR"));
+    let object = out.join(format!("{archive}.o"));
+    let library = out.join(format!("lib{archive}.a"));
+    let compiled = run(Command::new(compiler)
+        .args(["-O3", "-Wall", "-Wextra", "-c"])
+        .args(flags)
+        .arg(Path::new("c").join(file))
+        .arg("-o")
+        .arg(&object));
+    if !compiled {
+        return false;
+    }
+    assert!(
+        run(Command::new("ar").arg("crs").arg(&library).arg(&object)),
+        "ar failed"
+    );
+    println!("cargo:rustc-link-search=native={}", out.display());
+    println!("cargo:rustc-link-lib=static={archive}");
+    true
+}
+
+fn run(command: &mut Command) -> bool {
+    command.output().is_ok_and(|output| output.status.success())
+}

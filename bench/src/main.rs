@@ -1,0 +1,480 @@
+//! Times the library beside C scans of the same rule, OpenCV and leptonica, on the same machine in the same run.
+//!
+//! Usage: `bench [--quick]`
+//!
+//! All are worked one thread each, turn by turn, so that a slow moment of the machine meets all of them; medians of the
+//! processor time are given, and how far wall time lies above it. Buffers are allocated and touched beforehand. A run of the library is its start and all its rows; a run of a
+//! scan in C is the same unpacking, done here, and the scan. OpenCV and leptonica are given pictures in their own
+//! layout, made beforehand, and answer in theirs.
+#![deny(unsafe_code)]
+
+mod raw;
+mod sheets;
+
+use std::hint::black_box;
+use std::time::Instant;
+
+use raw::{Element, Leptonica, Scan, Sheet};
+use sheets::{elements, Content};
+
+/// The size that sheets are opened and closed by, and the cap of dilations.
+const SIZE: usize = 10;
+
+struct Options {
+    side: usize,
+    repeats: usize,
+}
+
+/// One who does the work: a name, and the work.
+struct Runner<'a> {
+    name: &'static str,
+    work: Box<dyn FnMut() + 'a>,
+}
+
+fn runner<'a>(name: &'static str, work: impl FnMut() + 'a) -> Runner<'a> {
+    Runner {
+        name,
+        work: Box::new(work),
+    }
+}
+
+/// Median time and spread of one runner.
+struct Timed {
+    name: &'static str,
+    median: f64,
+    /// The largest less the smallest time, as a share of the median.
+    spread: f64,
+}
+
+/// Times all runners turn by turn, in nanoseconds for each pixel; a first turn that doesn't count warms them up.
+fn time(pixels: usize, repeats: usize, mut runners: Vec<Runner>) -> Vec<Timed> {
+    let mut times = vec![Vec::new(); runners.len()];
+    for turn in 0..=repeats {
+        for (runner, times) in runners.iter_mut().zip(&mut times) {
+            let begin = raw::seconds_used();
+            (runner.work)();
+            let used = raw::seconds_used() - begin;
+            if turn > 0 {
+                times.push(used * 1e9 / pixels as f64);
+            }
+        }
+    }
+    runners
+        .iter()
+        .zip(times)
+        .map(|(runner, mut times)| {
+            times.sort_by(f64::total_cmp);
+            let median = times[times.len() / 2];
+            Timed {
+                name: runner.name,
+                median,
+                spread: (times[times.len() - 1] - times[0]) / median,
+            }
+        })
+        .collect()
+}
+
+/// One work, and what it took everyone.
+struct Row {
+    title: String,
+    timed: Vec<Timed>,
+}
+
+/// Prints one line for each runner; ratios are the library's time over the runner's.
+fn report(title: String, timed: Vec<Timed>) -> Row {
+    println!("{title}");
+    let library = timed[0].median;
+    for entry in &timed {
+        println!(
+            "    {:<24} {:>9.3} ns/pixel   spread {:>4.0} %   library/this {:>7.2}",
+            entry.name,
+            entry.median,
+            entry.spread * 100.0,
+            library / entry.median
+        );
+    }
+    Row { title, timed }
+}
+
+/// All medians again, one line for each work.
+fn print_table(rows: &[Row]) {
+    const COLUMNS: [&str; 5] = ["library", "plain C", "tuned C", "OpenCV", "leptonica"];
+    print!("{:<62}", "ns/pixel");
+    for column in COLUMNS {
+        print!(" {column:>9}");
+    }
+    println!(" {:>9} {:>9}", "lib/plain", "lib/tuned");
+    for row in rows {
+        let median = |column: &str| {
+            let entry = row
+                .timed
+                .iter()
+                .find(|entry| entry.name.starts_with(column));
+            entry.map(|entry| entry.median)
+        };
+        let shown = |number: Option<f64>| number.map_or("-".to_string(), |n| format!("{n:.2}"));
+        print!("{:<62}", row.title);
+        for column in COLUMNS {
+            print!(" {:>9}", shown(median(column)));
+        }
+        for column in ["plain C", "tuned C"] {
+            let ratio = median("library").zip(median(column)).map(|(l, c)| l / c);
+            print!(" {:>9}", shown(ratio));
+        }
+        println!();
+    }
+}
+
+/// Sets levels up as a start does, without a branch for each pixel.
+fn unpack(sheet: &Sheet, margin: usize, on: u16, off: u16, levels: &mut [u16]) {
+    if margin > 0 {
+        levels.fill(off);
+    }
+    let width = sheet.width + 2 * margin;
+    for (y, row) in sheet.bytes.chunks(sheet.width.div_ceil(8)).enumerate() {
+        let levels = &mut levels[(y + margin) * width + margin..][..sheet.width];
+        for (levels, byte) in levels.chunks_mut(8).zip(row) {
+            for (place, level) in levels.iter_mut().enumerate() {
+                let bit = u16::from(*byte) >> (7 - place) & 1;
+                *level = off ^ ((on ^ off) & 0_u16.wrapping_sub(bit));
+            }
+        }
+    }
+}
+
+/// Packs the points of the frame whose level lies in a range.
+fn pack(
+    sheet: &Sheet,
+    margin: usize,
+    levels: &[u16],
+    range: std::ops::RangeInclusive<u16>,
+) -> Vec<u8> {
+    let width = sheet.width + 2 * margin;
+    let mut out = vec![0; sheet.bytes.len()];
+    for (y, row) in out.chunks_mut(sheet.width.div_ceil(8)).enumerate() {
+        for x in 0..sheet.width {
+            if range.contains(&levels[(y + margin) * width + margin + x]) {
+                row[x / 8] |= 0x80 >> (x % 8);
+            }
+        }
+    }
+    out
+}
+
+fn erosion_by(which: Scan, sheet: &Sheet, element: &Element, levels: &mut [u16]) {
+    unpack(sheet, 0, u16::MAX, 0, levels);
+    raw::scan(which, levels, sheet.width, sheet.height, element, false);
+}
+
+fn dilation_by(which: Scan, sheet: &Sheet, element: &Element, cap: usize, levels: &mut [u16]) {
+    let margin = cap * element.reach();
+    unpack(sheet, margin, 1, u16::MAX, levels);
+    let (width, height) = (sheet.width + 2 * margin, sheet.height + 2 * margin);
+    raw::scan(which, levels, width, height, element, true);
+}
+
+/// Opens or closes with a scan in C, in the way that two work buffers allow: one scan, its threshold, another scan.
+fn filter_by(
+    which: Scan,
+    closing: bool,
+    sheet: &Sheet,
+    element: &Element,
+    work: &mut [Vec<u16>; 2],
+) -> Vec<u8> {
+    let size = u16::try_from(SIZE).expect("a small size");
+    let margin = if closing { SIZE * element.reach() } else { 0 };
+    let (width, height) = (sheet.width + 2 * margin, sheet.height + 2 * margin);
+    let [a, b] = work;
+    if closing {
+        dilation_by(which, sheet, element, SIZE, a);
+        for (from, to) in a.iter().zip(b.iter_mut()) {
+            *to = if *from <= size + 1 { u16::MAX } else { 0 };
+        }
+        raw::scan(which, b, width, height, element, false);
+        pack(sheet, margin, b, size + 1..=u16::MAX)
+    } else {
+        erosion_by(which, sheet, element, a);
+        for (from, to) in a.iter().zip(b.iter_mut()) {
+            *to = if *from > size { 1 } else { u16::MAX };
+        }
+        raw::scan(which, b, width, height, element, true);
+        pack(sheet, margin, b, 1..=size + 1)
+    }
+}
+
+/// The opening transform with a scan in C: a scan for the erosion, and one for every size up to its largest level.
+fn opening_levels_by(
+    which: Scan,
+    sheet: &Sheet,
+    element: &Element,
+    work: &mut [Vec<u16>; 2],
+    out: &mut [u16],
+) {
+    let [a, b] = work;
+    erosion_by(which, sheet, element, a);
+    out.fill(0);
+    for size in 0..a.iter().copied().max().unwrap_or(0) {
+        for (from, to) in a.iter().zip(b.iter_mut()) {
+            *to = if *from > size { 1 } else { u16::MAX };
+        }
+        raw::scan(which, b, sheet.width, sheet.height, element, true);
+        for (from, to) in b.iter().zip(out.iter_mut()) {
+            if *from <= size + 1 {
+                *to = size + 1;
+            }
+        }
+    }
+}
+
+/// Says where two answers that should be the same are not; a timing of wrong answers is worth nothing.
+fn compare<T: PartialEq>(who: &str, ours: &[T], theirs: &[T]) {
+    if ours != theirs {
+        println!("    WARNING: the answer of {who} differs from the library's");
+    }
+}
+
+fn bench_erosion(options: &Options, element: &Element, content: Content) -> Row {
+    let side = options.side;
+    let sheet = content.sheet(side, side);
+    let points = side * side;
+    let mut levels = [vec![0; points], vec![0; points], vec![0; points]];
+    // OpenCV and leptonica know the cross and the box only.
+    let known = element.side == 3;
+    let box_shaped = element.cells[0] == 1;
+    let pixels: Vec<u8> = if known {
+        let mut flags = vec![0; points];
+        unpack(&sheet, 0, 1, 0, &mut flags);
+        flags.iter().map(|flag| flag.to_le_bytes()[0]).collect()
+    } else {
+        Vec::new()
+    };
+    let mut distances = vec![0_f32; if known { points } else { 0 }];
+    let has_opencv = known && raw::opencv(&pixels, side, side, &mut distances, box_shaped);
+    let leptonica = if known { Leptonica::new(&sheet) } else { None };
+    let title = format!(
+        "erosion run, {}, {} {side} by {side}",
+        element.name,
+        content.name()
+    );
+
+    let [ours, plain, tuned] = &mut levels;
+    let mut runners = vec![
+        runner("library", || raw::erosion(&sheet, element, ours)),
+        runner("plain C", || {
+            erosion_by(Scan::Plain, &sheet, element, plain);
+        }),
+        runner("tuned C", || {
+            erosion_by(Scan::Tuned, &sheet, element, tuned);
+        }),
+    ];
+    if has_opencv {
+        let name = if box_shaped {
+            "OpenCV, C"
+        } else {
+            "OpenCV, L1"
+        };
+        runners.push(runner(name, || {
+            raw::opencv(&pixels, side, side, &mut distances, box_shaped);
+        }));
+    }
+    if let Some(leptonica) = &leptonica {
+        runners.push(runner("leptonica", || leptonica.distance(box_shaped)));
+    }
+    let row = report(title, time(points, options.repeats, runners));
+    if known && !has_opencv {
+        println!("    {:<24} not installed", "OpenCV");
+    }
+    if known && leptonica.is_none() {
+        println!("    {:<24} not installed", "leptonica");
+    }
+    let [ours, plain, tuned] = &levels;
+    compare("plain C", ours, plain);
+    compare("tuned C", ours, tuned);
+    if let Some(leptonica) = &leptonica {
+        compare("leptonica", ours, &leptonica.levels(box_shaped));
+    }
+    row
+}
+
+/// A dilation's canvas may have sides of 4,096, so the frame is smaller by its margins.
+fn frame_side(options: &Options, element: &Element) -> usize {
+    options.side - 2 * SIZE * element.reach()
+}
+
+fn bench_dilation(options: &Options, element: &Element, content: Content) -> Row {
+    let side = frame_side(options, element);
+    let sheet = content.sheet(side, side);
+    let points = options.side * options.side;
+    let mut levels = [vec![0; points], vec![0; points], vec![0; points]];
+    let [ours, plain, tuned] = &mut levels;
+    let runners = vec![
+        runner("library", || raw::dilation(&sheet, element, SIZE, ours)),
+        runner("plain C", || {
+            dilation_by(Scan::Plain, &sheet, element, SIZE, plain);
+        }),
+        runner("tuned C", || {
+            dilation_by(Scan::Tuned, &sheet, element, SIZE, tuned);
+        }),
+    ];
+    let title = format!(
+        "dilation run, cap {SIZE}, {}, {} {side} by {side}",
+        element.name,
+        content.name()
+    );
+    let row = report(title, time(side * side, options.repeats, runners));
+    compare("plain C", &levels[0], &levels[1]);
+    compare("tuned C", &levels[0], &levels[2]);
+    row
+}
+
+fn bench_filter(options: &Options, element: &Element, content: Content, closing: bool) -> Row {
+    let side = if closing {
+        frame_side(options, element)
+    } else {
+        options.side
+    };
+    let sheet = content.sheet(side, side);
+    let points = options.side * options.side;
+    let mut work = [vec![0; points], vec![0; points]];
+    let mut work_plain = [vec![0; points], vec![0; points]];
+    let mut work_tuned = [vec![0; points], vec![0; points]];
+    let mut ours = vec![0; sheet.bytes.len()];
+    let (mut plain, mut tuned) = (Vec::new(), Vec::new());
+    let runners = vec![
+        runner("library", || {
+            raw::filter(closing, &sheet, element, SIZE, &mut work, &mut ours);
+        }),
+        runner("plain C", || {
+            plain = filter_by(Scan::Plain, closing, &sheet, element, &mut work_plain);
+        }),
+        runner("tuned C", || {
+            tuned = filter_by(Scan::Tuned, closing, &sheet, element, &mut work_tuned);
+        }),
+    ];
+    let title = format!(
+        "{} by {SIZE}, {}, {} {side} by {side}",
+        if closing { "closing" } else { "opening" },
+        element.name,
+        content.name()
+    );
+    let row = report(title, time(side * side, options.repeats, runners));
+    compare("plain C", &ours, &plain);
+    compare("tuned C", &ours, &tuned);
+    row
+}
+
+/// Only on a sheet of small shapes: the transform takes a scan for every size that leaves something.
+fn bench_opening_levels(options: &Options, element: &Element) -> Row {
+    let side = options.side;
+    let sheet = Content::TextLike.sheet(side, side);
+    let points = side * side;
+    let mut work = [vec![0; points], vec![0; points]];
+    let mut work_plain = [vec![0; points], vec![0; points]];
+    let mut work_tuned = [vec![0; points], vec![0; points]];
+    let mut out = [vec![0; points], vec![0; points], vec![0; points]];
+    let [ours, plain, tuned] = &mut out;
+    let runners = vec![
+        runner("library", || {
+            raw::opening_levels(&sheet, element, &mut work, ours);
+        }),
+        runner("plain C", || {
+            opening_levels_by(Scan::Plain, &sheet, element, &mut work_plain, plain);
+        }),
+        runner("tuned C", || {
+            opening_levels_by(Scan::Tuned, &sheet, element, &mut work_tuned, tuned);
+        }),
+    ];
+    let title = format!(
+        "opening levels, {}, text-like {side} by {side}",
+        element.name
+    );
+    let row = report(title, time(points, options.repeats, runners));
+    println!(
+        "    the largest level is {}",
+        out[0].iter().copied().max().unwrap_or(0)
+    );
+    compare("plain C", &out[0], &out[1]);
+    compare("tuned C", &out[0], &out[2]);
+    row
+}
+
+fn bench_reading(options: &Options) -> Row {
+    let side = options.side;
+    let sheet = Content::RandomHalf.sheet(side, side);
+    let mut file = format!("P4\n{side} {side}\n").into_bytes();
+    let header = file.len();
+    file.extend(&sheet.bytes);
+    let mut ours = vec![0; sheet.bytes.len()];
+    let mut copied = vec![0; sheet.bytes.len()];
+    let runners = vec![
+        runner("library", || raw::read_pbm(&file, &mut ours)),
+        runner("copying the raster", || {
+            copied.copy_from_slice(&file[header..]);
+            black_box(&copied);
+        }),
+    ];
+    let title = format!("reading a raw PBM, {side} by {side}");
+    let row = report(title, time(side * side, options.repeats, runners));
+    compare("copying", &ours, &copied);
+    row
+}
+
+/// The same work again and again: how far its times lie apart is what the machine alone does to a figure.
+fn bench_noise(options: &Options) {
+    let side = options.side;
+    let sheet = Content::TextLike.sheet(side, side);
+    let [cross, ..] = elements();
+    let mut levels = vec![0; side * side];
+    let runners = vec![runner("tuned C", || {
+        erosion_by(Scan::Tuned, &sheet, &cross, &mut levels);
+    })];
+    let (wall, processor) = (Instant::now(), raw::seconds_used());
+    let timed = time(side * side, 11, runners);
+    println!(
+        "noise of the machine: {}, eleven times: {:.3} ns/pixel, spread {:.0} %; wall time {:.2} times processor time",
+        timed[0].name,
+        timed[0].median,
+        timed[0].spread * 100.0,
+        wall.elapsed().as_secs_f64() / (raw::seconds_used() - processor)
+    );
+}
+
+fn main() {
+    let quick = std::env::args().any(|argument| argument == "--quick");
+    let options = if quick {
+        Options {
+            side: 1024,
+            repeats: 3,
+        }
+    } else {
+        Options {
+            side: 4096,
+            repeats: 5,
+        }
+    };
+    println!(
+        "processor time in ns per pixel of the frame, medians of {} turns; spread is (largest - smallest) / median",
+        options.repeats
+    );
+    bench_noise(&options);
+    let mut rows = Vec::new();
+    for element in &elements() {
+        for content in Content::ALL {
+            rows.push(bench_erosion(&options, element, content));
+        }
+    }
+    for element in &elements() {
+        rows.push(bench_dilation(&options, element, Content::TextLike));
+    }
+    let [cross, box_shaped, _] = elements();
+    for element in [&cross, &box_shaped] {
+        for closing in [false, true] {
+            rows.push(bench_filter(&options, element, Content::TextLike, closing));
+        }
+    }
+    rows.push(bench_opening_levels(&options, &cross));
+    rows.push(bench_reading(&options));
+    bench_noise(&options);
+    println!();
+    print_table(&rows);
+}

@@ -1,0 +1,106 @@
+//! The sheets and elements that are timed.
+
+use crate::raw::{Element, Sheet};
+
+/// The same random numbers every time (the generator called xorshift64*).
+struct Dice(u64);
+
+impl Dice {
+    fn word(&mut self) -> u64 {
+        self.0 ^= self.0 >> 12;
+        self.0 ^= self.0 << 25;
+        self.0 ^= self.0 >> 27;
+        self.0.wrapping_mul(0x2545_F491_4F6C_DD1D)
+    }
+
+    fn below(&mut self, bound: usize) -> usize {
+        usize::try_from(self.word() >> 33).unwrap_or(0) % bound
+    }
+}
+
+/// What a sheet shows.
+#[derive(Clone, Copy)]
+pub enum Content {
+    RandomHalf,
+    TextLike,
+    Full,
+}
+
+impl Content {
+    pub const ALL: [Content; 3] = [Content::RandomHalf, Content::TextLike, Content::Full];
+
+    pub fn name(self) -> &'static str {
+        match self {
+            Content::RandomHalf => "random half",
+            Content::TextLike => "text-like",
+            Content::Full => "full",
+        }
+    }
+
+    pub fn sheet(self, width: usize, height: usize) -> Sheet {
+        let mut sheet = Sheet {
+            width,
+            height,
+            bytes: vec![0; height * width.div_ceil(8)],
+        };
+        let mut dice = Dice(0x5EED_5EED_5EED_5EED);
+        match self {
+            Content::RandomHalf => {
+                for byte in &mut sheet.bytes {
+                    *byte = dice.word().to_le_bytes()[7];
+                }
+            }
+            Content::Full => sheet.bytes.fill(255),
+            Content::TextLike => strokes(&mut sheet, &mut dice),
+        }
+        sheet
+    }
+}
+
+/// Lines of small signs, each of a few strokes three pixels thick; about a sixth of the signs are blanks.
+fn strokes(sheet: &mut Sheet, dice: &mut Dice) {
+    const SIGN_WIDTH: usize = 16;
+    const LINE_HEIGHT: usize = 30;
+    for top in (4..sheet.height.saturating_sub(LINE_HEIGHT)).step_by(LINE_HEIGHT) {
+        for left in (4..sheet.width.saturating_sub(SIGN_WIDTH)).step_by(SIGN_WIDTH) {
+            if dice.below(6) == 0 {
+                continue;
+            }
+            for _ in 0..3 {
+                let (column, row) = (left + dice.below(10), top + dice.below(17));
+                let (width, height) = if dice.below(2) == 0 {
+                    (4 + dice.below(8), 3)
+                } else {
+                    (3, 6 + dice.below(14))
+                };
+                for y in row..(row + height).min(sheet.height) {
+                    for x in column..(column + width).min(sheet.width) {
+                        sheet.bytes[y * sheet.width.div_ceil(8) + x / 8] |= 0x80 >> (x % 8);
+                    }
+                }
+            }
+        }
+    }
+}
+
+fn element(name: &'static str, side: usize, cells: Vec<u8>) -> Element {
+    let mut flat = [0; 49];
+    let corner = 3 - (side - 1) / 2;
+    for (place, cell) in cells.iter().enumerate() {
+        flat[(corner + place / side) * 7 + corner + place % side] = *cell;
+    }
+    Element {
+        name,
+        side,
+        cells,
+        flat,
+    }
+}
+
+pub fn elements() -> [Element; 3] {
+    [
+        element("cross", 3, vec![0, 1, 0, 1, 1, 1, 0, 1, 0]),
+        element("box 3 by 3", 3, vec![1; 9]),
+        element("full 7 by 7", 7, vec![1; 49]),
+    ]
+}

@@ -1,0 +1,5 @@
+pub mod WordLaws
+pub mod AnswerLaws
+pub mod FileAnswers
+pub mod RunAnswers
+pub mod Unique

@@ -1,0 +1,103 @@
+-- The answers of the calls on runs at the boundary, each from the tests that led to it and from the library's answer.
+use Prim.Native.Nat.{ℕ, _*_}
+use native.Mathlib.Omega.{arith}
+use mathlib.Core.Path.{_≡_, sym, ap, _∙_}
+use mathlib.Core.Bool.{Bool, true, false, not, _||_}
+use mathlib.Core.Logic.{_≢_}
+use mathlib.Core.List.{List, [], _∷_, _++_}
+use lib.Dec.{T, eqb, ltb}
+use lib.ListN.{length, set}
+use borrow.Author.Tests.{eq-eqb, ne-eqb}
+use Rattle.basics.specs.Refusals.{Refusal, first, Answers}
+use Rattle.basics.proofs.RefusalLaws.{numbered, first-refused, first-accepted, refuses}
+use Rattle.element.specs.Elements.{elementRefusals}
+use Rattle.sheet.specs.Sheets.{sheetRefusals}
+use Rattle.run.specs.declared.Record.{Record}
+use Rattle.run.specs.Records.{marginOf, canvasSide, recordBad, noRecord}
+use Rattle.run.specs.Continuing.{levelsWrong, continueRefusals, Continues}
+use Rattle.run.specs.Pictures.{Collects, Thresholds}
+use Rattle.run.proofs.Starts.{Judged, refuse-sheet, judge-element, judged}
+use Rattle.harness.specs.Boundary.{wordsOf, recordOf, holdsNoRecord, wordsRefusal, answerRefusal, atEleven}
+use Rattle.harness.specs.Runs.{flag, continueWords, ContinuesWords, CollectsWords, ThresholdsWords}
+use Rattle.harness.proofs.AnswerLaws.{carried, carried-refusal, carried-answer, answer-fits, one-stored}
+
+-- STARTING: what each kind judges after the sheet and the element
+abbrev pub erosionLater : ℕ → ℕ → List ℕ → List Refusal
+erosionLater width height levels = (10, not (eqb (length levels) (height * width))) ∷ []
+
+abbrev pub dilationLater : ℕ → ℕ → ℕ → ℕ → List ℕ → List Refusal
+dilationLater width height cap side levels =
+    (8, ltb 2047 cap) ∷
+    (9, ltb 4096 (canvasSide width (marginOf cap side)) || ltb 4096 (canvasSide height (marginOf cap side))) ∷
+    (10, not (eqb (length levels) (canvasSide height (marginOf cap side) * canvasSide width (marginOf cap side)))) ∷ []
+
+module _ (width height : ℕ) (sheet : List ℕ) (side : ℕ) (cells : List ℕ) (later : List Refusal) where
+  abbrev common : List Refusal
+  common = sheetRefusals width height sheet ++ elementRefusals side cells
+
+  pub judge-sheet : (n : ℕ) → n ≢ 0 → n ≡ first (sheetRefusals width height sheet) → n ≡ first (common ++ later)
+  judge-sheet n z e = let f = refuse-sheet width height sheet side cells n z e in f ∙ sym (first-refused common later (λ q. z (f ∙ q)))
+
+  module _ (a : first (sheetRefusals width height sheet) ≡ 0) where
+    pub judge-cells : (n : ℕ) → n ≢ 0 → n ≡ first (elementRefusals side cells) → n ≡ first (common ++ later)
+    judge-cells n z e = let f = judge-element width height sheet side cells a e in f ∙ sym (first-refused common later (λ q. z (f ∙ q)))
+
+    module _ (b : first (elementRefusals side cells) ≡ 0) where
+      pub judge-later : (n : ℕ) → first later ≡ n → n ≡ first (common ++ later)
+      judge-later n e = sym (first-accepted common later tt (sym (judge-element width height sheet side cells a (sym b))) ∙ e)
+
+      pub both-judged : Judged width height sheet side cells
+      both-judged = judged width height sheet side cells (sym (judge-element width height sheet side cells a (sym b)))
+
+-- the record goes into the words
+module _ (refusals : List Refusal) (t : T (numbered refusals)) (levels words : List ℕ) (a : length words ≡ 55) {begun : Record} {started : List ℕ} (n : ℕ) (run : Record) (after : List ℕ)
+    (p : Answers {A = Record × List ℕ} refusals (noRecord, levels) (λ x. x ≡ (begun, started)) n (run, after)) where
+  abbrev StartsWords : ℕ → List ℕ × List ℕ → Type 0
+  StartsWords = Answers (refusals ++ answerRefusal 55 words ∷ []) (levels, words) (λ x. x ≡ (started, wordsOf begun))
+
+  pub start-refuses : n ≢ 0 → StartsWords n (after, words)
+  start-refuses z = carried-refusal p (answer-fits refusals t 55 words a) z (after, words) (λ q. ap (λ x. (x .1, words)) q)
+
+  pub start-accepts : n ≡ 0 → (next : List ℕ) → next ≡ wordsOf run → StartsWords 0 (after, next)
+  start-accepts z next e = carried-answer p (answer-fits refusals t 55 words a) z (after, next) (λ q. rw e (ap (λ x. (x .1, wordsOf (x .0))) q))
+
+-- CONTINUING
+module _ (words levels : List ℕ) (allowance : ℕ) (done : List ℕ) where
+  pub continue-words : holdsNoRecord words ≡ true → ContinuesWords words levels allowance done 1 (words, levels, done)
+  continue-words h = refuses 1 (λ q. absurd (omega arith)) (rw h)
+
+  module _ (h : holdsNoRecord words ≡ false) (run : Record) (q : run ≡ recordOf words) where
+    pub continue-bad : recordBad run ≡ true → ContinuesWords words levels allowance done 1 (words, levels, done)
+    continue-bad b = refuses 1 (λ z. absurd (omega arith)) (rw (h, ap recordBad (sym q) ∙ b))
+
+    module _ (b : recordBad run ≡ false) where
+      pub continue-levels : levelsWrong run levels ≡ true → ContinuesWords words levels allowance done 10 (words, levels, done)
+      continue-levels l = refuses 10 (λ z. absurd (omega arith)) (rw (h, ap recordBad (sym q) ∙ b, ap (λ r. levelsWrong r levels) (sym q) ∙ l))
+
+      pub continue-other : levelsWrong run levels ≡ false → length done ≢ 1 → ContinuesWords words levels allowance done 11 (words, levels, done)
+      continue-other l a = refuses 11 (λ z. absurd (omega arith)) (rw (h, ap recordBad (sym q) ∙ b, ap (λ r. levelsWrong r levels) (sym q) ∙ l, ne-eqb (length done) 1 a))
+
+    module _ (a : length done ≡ 1) (n : ℕ) (next : Record) (all : Bool) (after : List ℕ) (p : Continues run levels allowance n (next, all, after)) where
+      continue-fits : first (wordsRefusal words ∷ atEleven (answerRefusal 1 done) (continueRefusals (recordOf words) levels allowance)) ≡ first (continueRefusals (recordOf words) levels allowance)
+      continue-fits = rw (h, eq-eqb (length done) 1 a)
+
+      pub continue-refuses : n ≢ 0 → ContinuesWords words levels allowance done n (words, after, done)
+      continue-refuses z = carried-refusal (rw q at p) continue-fits z (words, after, done) (λ e. ap (λ x. (words, x .2, done)) e)
+
+      pub continue-accepts : n ≡ 0 → (written : List ℕ) → written ≡ wordsOf next → (v : ℕ) → v ≡ flag all → ContinuesWords words levels allowance done 0 (written, after, set done 0 v)
+      continue-accepts z written w v f = carried-answer (rw q at p) continue-fits z (written, after, set done 0 v) (λ e. rw (w, one-stored done v a, f) (ap continueWords e))
+
+-- COLLECTING AND THRESHOLDING
+module _ (words levels out : List ℕ) where
+  pub collect-words : holdsNoRecord words ≡ true → CollectsWords words levels out 1 out
+  collect-words h = refuses 1 (λ q. absurd (omega arith)) (rw h)
+
+  pub collect-answers : holdsNoRecord words ≡ false → (run : Record) → run ≡ recordOf words → (n : ℕ) (after : List ℕ) → Collects run levels out n after → CollectsWords words levels out n after
+  collect-answers h run q n after p = carried (rw q at p) (rw h)
+
+module _ (words levels : List ℕ) (size : ℕ) (out : List ℕ) where
+  pub threshold-words : holdsNoRecord words ≡ true → ThresholdsWords words levels size out 1 out
+  threshold-words h = refuses 1 (λ q. absurd (omega arith)) (rw h)
+
+  pub threshold-answers : holdsNoRecord words ≡ false → (run : Record) → run ≡ recordOf words → (n : ℕ) (after : List ℕ) → Thresholds run levels size out n after → ThresholdsWords words levels size out n after
+  threshold-answers h run q n after p = carried (rw q at p) (rw h)

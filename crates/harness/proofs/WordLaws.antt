@@ -1,0 +1,131 @@
+-- A record as 55 words: what is known of words that hold one, and the stores that write one.
+-- Words that a record was written to give that record back.
+use Prim.Native.Nat.{ℕ, zero, suc, _+_, _≤_, _<_}
+use native.Mathlib.Nat.{le-of-eq}
+use native.Mathlib.Numerals.{add-one}
+use native.Mathlib.Omega.{arith}
+use mathlib.Core.Path.{_≡_, refl, sym, ap, ap₂, _∙_}
+use mathlib.Core.Bool.{Bool, true, false, not, _||_}
+use mathlib.Core.Logic.{_≢_, _⊎_, inl, inr}
+use mathlib.Core.List.{List, [], _∷_, _++_, append-nil}
+use lib.Dec.{eqb, ltb}
+use lib.ListN.{length, getD, take, drop, set, length-set, length-drop, drop-of-length-le}
+use lib.Seq.{getD-drop, take-all, paste, paste-zero, paste-suc, sets-eq}
+use borrow.Author.Tests.{lt-ltb, le-ltb, eq-eqb, ne-eqb, eqb-true, ltb-false, not-false}
+use Rattle.basics.specs.Tables.{table}
+use Rattle.basics.proofs.TableLaws.{table-is}
+use Rattle.run.specs.declared.Record.{Record}
+use Rattle.element.specs.Elements.{anyAboveOne}
+use Rattle.run.specs.Records.{recordBad}
+use Rattle.run.proofs.RecordLaws.{neither, sound, not-bad}
+use Rattle.pgm.specs.WritePgm.{anyAbove}
+use Rattle.harness.specs.Boundary.{wordsOf, recordOf, holdsNoRecord}
+
+-- WHAT IS WRITTEN IS READ
+pub read-written : (r : Record) → recordOf (wordsOf r) ≡ r
+read-written r = refl
+
+-- where no entry is above a limit, none is
+pub none-above : (limit : ℕ) (l : List ℕ) (i : ℕ) → anyAbove limit l ≡ false → i < length l → getD l i 0 ≤ limit
+unfolding anyAbove
+none-above limit [] i e h = absurd (omega arith)
+none-above limit (x ∷ l) zero e h = ltb-false limit x (neither (ltb limit x) (anyAbove limit l) e .0)
+none-above limit (x ∷ l) (suc i) e h = none-above limit l i (neither (ltb limit x) (anyAbove limit l) e .1) (omega arith)
+
+module _ (words : List ℕ) where
+  -- the tests on the words
+  pub no-record-length : length words ≢ 55 → true ≡ holdsNoRecord words
+  unfolding holdsNoRecord
+  no-record-length n = rw (ne-eqb (length words) 55 n)
+
+  module _ (a : length words ≡ 55) where
+    pub no-record-kind : 255 < getD words 0 0 → true ≡ holdsNoRecord words
+    unfolding holdsNoRecord
+    no-record-kind l = rw (eq-eqb (length words) 55 a, lt-ltb 255 (getD words 0 0) l)
+
+    pub no-record-cells : getD words 0 0 ≤ 255 → (t : Bool) → t ≡ anyAbove 255 (drop 6 words) → t ≡ holdsNoRecord words
+    unfolding holdsNoRecord
+    no-record-cells l t e = rw (eq-eqb (length words) 55 a, le-ltb 255 (getD words 0 0) l) e
+
+  -- words that hold a record
+  module _ (h : holdsNoRecord words ≡ false) where
+    parts : (not (eqb (length words) 55) || ltb 255 (getD words 0 0) ≡ false) × (anyAbove 255 (drop 6 words) ≡ false)
+    unfolding holdsNoRecord
+    parts = neither (not (eqb (length words) 55) || ltb 255 (getD words 0 0)) (anyAbove 255 (drop 6 words)) h
+
+    front : (not (eqb (length words) 55) ≡ false) × (ltb 255 (getD words 0 0) ≡ false)
+    front = neither (not (eqb (length words) 55)) (ltb 255 (getD words 0 0)) (parts .0)
+
+    pub record-length : length words ≡ 55
+    record-length = eqb-true (length words) 55 (not-false (eqb (length words) 55) (front .0))
+
+    pub record-word : (i : ℕ) → i < 55 → i < length words
+    record-word i l = let s = record-length in omega arith
+
+    pub record-kind : getD words 0 0 ≤ 255
+    record-kind = ltb-false 255 (getD words 0 0) (front .1)
+
+    cells-length : length (drop 6 words) ≡ 49
+    cells-length = let d = length-drop 6 words in let s = record-length in omega arith
+
+    pub record-cell : (k : ℕ) → k < 49 → getD words (6 + k) 0 ≤ 255
+    record-cell k l = let s = cells-length in rw (← getD-drop 6 words k 0) (none-above 255 (drop 6 words) k (parts .1) (omega arith))
+
+    pub record-cells : drop 6 words ≡ table 49 (λ k. getD words (6 + k) 0)
+    record-cells = table-is (λ k. getD words (6 + k) 0) 49 0 (drop 6 words) cells-length (λ k l. getD-drop 6 words k 0)
+
+    pub record-is : (cells : List ℕ) (kind : ℕ) → cells ≡ drop 6 words → kind ≡ getD words 0 0
+        → record { kind = kind; width = getD words 1 0; height = getD words 2 0; cap = getD words 3 0; side = getD words 4 0; rows = getD words 5 0; cells = cells } ≡ recordOf words
+    record-is cells kind e f = rw (e, f)
+
+-- A SOUND RECORD IS HELD: the words of a record that the library takes are never refused for themselves
+narrow : (cells : List ℕ) → anyAboveOne cells ≡ false → anyAbove 255 cells ≡ false
+unfolding anyAboveOne anyAbove
+narrow [] e = refl
+narrow (x ∷ l) e =
+    let f = neither (ltb 1 x) (anyAboveOne l) e in
+    let b = ltb-false 1 x (f .0) in
+    rw (le-ltb 255 x (let h : x ≤ 255 = omega arith in h)) (narrow l (f .1))
+
+pub sound-held : (r : Record) → length (r .cells) ≡ 49 → recordBad r ≡ false → holdsNoRecord (wordsOf r) ≡ false
+unfolding holdsNoRecord
+sound-held r l e =
+    let s = sound r (not-bad r e .0) in
+    rw (eq-eqb (length (wordsOf r)) 55 (let h : length (wordsOf r) ≡ 55 = omega arith in h), le-ltb 255 (r .kind) (kind-small (s .kind-is))) (narrow (r .cells) (s .binary))
+  where
+    kind-small : ((r .kind ≡ 1) × (r .cap ≡ 0)) ⊎ (r .kind ≡ 2) → r .kind ≤ 255
+    kind-small (inl k) = let a = k .0 in omega arith
+    kind-small (inr k) = omega arith
+
+-- the six numbers, stored one after the other
+pub numbers-stored : (words : List ℕ) (a b c d e f : ℕ) → length words ≡ 55
+    → set (set (set (set (set (set words 0 a) 1 b) 2 c) 3 d) 4 e) 5 f ≡ a ∷ b ∷ c ∷ d ∷ e ∷ f ∷ drop 6 words
+numbers-stored words a b c d e f s = sets-eq (a ∷ b ∷ c ∷ d ∷ e ∷ f ∷ []) words 0 (omega arith)
+
+-- the cells, stored one a turn
+pub record Stored (words cells : List ℕ) (k : ℕ) (after : List ℕ) : Type 0 where
+  pub below : k ≤ 49
+  pub size : length after ≡ 55
+  pub is : after ≡ paste words 6 cells k
+
+module _ (words cells : List ℕ) (s : length words ≡ 55) (t : length cells ≡ 49) where
+  pub stored-none : Stored words cells 0 words
+  stored-none = record { below = omega arith; size = s; is = paste-zero words 6 cells }
+
+  pub stored-turn : (k : ℕ) (after : List ℕ) (v : ℕ) → Stored words cells k after → k < 49 → v ≡ getD cells k 0 → Stored words cells (k + 1) (set after (6 + k) v)
+  stored-turn k after v P l e = record {
+    below = omega arith;
+    size = length-set after (6 + k) v ∙ P .size;
+    is = ap₂ (λ m x. set m (6 + k) x) (P .is) e ∙ paste-suc words 6 cells k 0 (omega arith) (omega arith) ∙ ap (λ n. paste words 6 cells n) (sym (add-one k));
+  }
+
+  pub stored-all : (k : ℕ) (after : List ℕ) → Stored words cells k after → 49 ≤ k → after ≡ take 6 words ++ cells
+  stored-all k after P l =
+      let b = P .below in
+      let e : k ≡ 49 = omega arith in
+      P .is ∙ ap (λ n. paste words 6 cells n) e ∙ rw (take-all 49 cells (le-of-eq t), drop-of-length-le words (le-of-eq s), append-nil)
+
+-- the words of a record, number by number and then cell by cell
+pub record-stored : (r : Record) (words middle after : List ℕ) (kind : ℕ) → kind ≡ r .kind → middle ≡ kind ∷ r .width ∷ r .height ∷ r .cap ∷ r .side ∷ r .rows ∷ drop 6 words
+    → after ≡ take 6 middle ++ r .cells → after ≡ wordsOf r
+record-stored r words middle after kind k m e = e ∙ rw (m, k)

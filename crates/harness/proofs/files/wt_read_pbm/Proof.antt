@@ -1,0 +1,63 @@
+-- A frame of another length is judged over a room of one byte; else the library answers.
+use Rattle.harness.proofs.FileAnswers.{read-other, read-other-refuses, read-refuses, read-accepts}
+use lib.Seq.{lt-length-sets}
+use borrow.Author.Needs.{needs}
+use native.Mathlib.Omega.{arith}
+use Prim.Native.Nat.{_<_}
+use mathlib.Core.List.{[], _∷_}
+use lib.ListN.{length}
+use Rattle.harness.proofs.files.wt_read_pbm.Statement.{statement}
+use Rattle.harness.proofs.files.wt_read_pbm.Tie as tie
+
+slice-aggregate-read-pbm : tie.Need-slice-aggregate-read-pbm
+slice-aggregate-read-pbm c = search needs
+
+read-pbm-requires : tie.Need-read-pbm-requires
+read-pbm-requires c κs = search needs
+
+returns : tie.Need-returns
+returns c = read-other (c .before .before .before .before .before .before .before .before .args .file .now) (c .before .before .before .before .before .before .before .before .args .out .now) (c .before .before .before .before .before .before .before .before .args .frame .now) (c .before .before .before .before .if1 .taken) _ (c .before .before .read-pbm .result .refusal) (c .before .before .read-pbm .result .width) (c .before .before .read-pbm .result .height) _ (c .before .before .read-pbm .ensures) (c .if2 .taken)
+
+returns-2 : tie.Need-returns-2
+returns-2 c = read-other-refuses (c .before .before .before .before .before .before .before .before .args .file .now) (c .before .before .before .before .before .before .before .before .args .out .now) (c .before .before .before .before .before .before .before .before .args .frame .now) (c .before .before .before .before .if1 .taken) _ (c .before .before .read-pbm .result .refusal) (c .before .before .read-pbm .result .width) (c .before .before .read-pbm .result .height) _ (c .before .before .read-pbm .ensures) (c .if2 .left)
+
+read-pbm-requires-2 : tie.Need-read-pbm-requires-2
+read-pbm-requires-2 c κs = search needs
+
+same-length : tie.Need-same-length
+same-length c = search needs
+
+returns-3 : tie.Need-returns-3
+returns-3 c = read-refuses (c .before .before .before .before .before .before .before .before .before .before .args .file .now) (c .before .before .before .before .before .before .before .before .before .before .args .out .now) (c .before .before .before .before .before .before .before .before .before .before .args .frame .now) (c .before .before .before .before .before .before .if1 .left) (c .before .before .before .before .read-pbm2 .result .refusal) (c .before .before .before .before .read-pbm2 .result .width) (c .before .before .before .before .read-pbm2 .result .height) (c .before .before .before .before .read-pbm2 .last .1 .0) (c .before .before .before .before .read-pbm2 .ensures) (c .if3 .taken)
+
+slice-write-frame : tie.Need-slice-write-frame
+slice-write-frame c = search needs
+
+slice-write-frame-2 : tie.Need-slice-write-frame-2
+slice-write-frame-2 c = lt-length-sets (c .before .before .before .before .before .before .before .before .before .before .args .frame .now) 0 (c .before .before .before .before .read-pbm2 .result .width ∷ []) (let h : 1 < length (c .before .before .before .before .before .before .before .before .before .before .args .frame .now) = omega arith in h)
+
+same-length-2 : tie.Need-same-length-2
+same-length-2 c = search needs
+
+same-length-3 : tie.Need-same-length-3
+same-length-3 c = search needs
+
+returns-4 : tie.Need-returns-4
+returns-4 c = read-accepts (c .before .before .before .before .before .before .before .before .before .before .args .file .now) (c .before .before .before .before .before .before .before .before .before .before .args .out .now) (c .before .before .before .before .before .before .before .before .before .before .args .frame .now) (c .before .before .before .before .before .before .if1 .left) (c .before .before .before .before .read-pbm2 .result .refusal) (c .before .before .before .before .read-pbm2 .result .width) (c .before .before .before .before .read-pbm2 .result .height) (c .before .before .before .before .read-pbm2 .last .1 .0) (c .before .before .before .before .read-pbm2 .ensures) (c .if3 .left)
+
+pub wt-read-pbm-spec : {M : Type 1} → statement M
+wt-read-pbm-spec =
+    tie.close
+    (tie.spec
+    slice-aggregate-read-pbm
+    read-pbm-requires
+    returns
+    returns-2
+    read-pbm-requires-2
+    same-length
+    returns-3
+    slice-write-frame
+    slice-write-frame-2
+    same-length-2
+    same-length-3
+    returns-4)

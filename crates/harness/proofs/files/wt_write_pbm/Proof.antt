@@ -1,0 +1,52 @@
+-- An answer slice of another length is judged with the sheet alone; else the library answers.
+use Rattle.harness.proofs.FileAnswers.{write-other-refuses, write-other, write-refuses, write-accepts}
+use borrow.Author.Needs.{needs}
+use mathlib.Core.Path.{sym, _∙_}
+use lib.ListN.{length}
+use Rattle.harness.proofs.files.wt_write_pbm.Statement.{statement}
+use Rattle.harness.proofs.files.wt_write_pbm.Tie as tie
+
+sheet-refusal-requires : tie.Need-sheet-refusal-requires
+sheet-refusal-requires c κs = search needs
+
+returns : tie.Need-returns
+returns c = write-other-refuses (c .before .before .before .before .before .before .args .width) (c .before .before .before .before .before .before .args .height) (c .before .before .before .before .before .before .args .sheet .now) (c .before .before .before .before .before .before .args .out .now) (c .before .before .before .before .before .before .args .answer .now) (c .before .before .if1 .taken) (c .before .sheet-refusal .result) (c .if2 .taken) (c .before .sheet-refusal .ensures)
+
+returns-2 : tie.Need-returns-2
+returns-2 c = write-other (c .before .before .before .before .before .before .args .width) (c .before .before .before .before .before .before .args .height) (c .before .before .before .before .before .before .args .sheet .now) (c .before .before .before .before .before .before .args .out .now) (c .before .before .before .before .before .before .args .answer .now) (c .before .before .if1 .taken) (sym (c .before .sheet-refusal .ensures) ∙ c .if2 .left)
+
+write-pbm-requires : tie.Need-write-pbm-requires
+write-pbm-requires c κs = search needs
+
+same-length : tie.Need-same-length
+same-length c = search needs
+
+returns-3 : tie.Need-returns-3
+returns-3 c = write-refuses (c .before .before .before .before .before .before .before .before .before .args .width) (c .before .before .before .before .before .before .before .before .before .args .height) (c .before .before .before .before .before .before .before .before .before .args .sheet .now) (c .before .before .before .before .before .before .before .before .before .args .out .now) (c .before .before .before .before .before .before .before .before .before .args .answer .now) (c .before .before .before .before .before .if1 .left) (c .before .before .before .write-pbm .result .refusal) (c .before .before .before .write-pbm .result .length) (c .before .before .before .write-pbm .last .1 .1 .1 .0) (c .before .before .before .write-pbm .ensures) (c .if3 .taken)
+
+slice-write-answer : tie.Need-slice-write-answer
+slice-write-answer c = search needs
+
+same-length-2 : tie.Need-same-length-2
+same-length-2 c = search needs
+
+same-length-3 : tie.Need-same-length-3
+same-length-3 c = search needs
+
+returns-4 : tie.Need-returns-4
+returns-4 c = write-accepts (c .before .before .before .before .before .before .before .before .before .args .width) (c .before .before .before .before .before .before .before .before .before .args .height) (c .before .before .before .before .before .before .before .before .before .args .sheet .now) (c .before .before .before .before .before .before .before .before .before .args .out .now) (c .before .before .before .before .before .before .before .before .before .args .answer .now) (c .before .before .before .before .before .if1 .left) (c .before .before .before .write-pbm .result .refusal) (c .before .before .before .write-pbm .result .length) (c .before .before .before .write-pbm .last .1 .1 .1 .0) (c .before .before .before .write-pbm .ensures) (c .if3 .left)
+
+pub wt-write-pbm-spec : {M : Type 1} → statement M
+wt-write-pbm-spec =
+    tie.close
+    (tie.spec
+    sheet-refusal-requires
+    returns
+    returns-2
+    write-pbm-requires
+    same-length
+    returns-3
+    slice-write-answer
+    same-length-2
+    same-length-3
+    returns-4)

@@ -1,0 +1,60 @@
+-- The words are read first; an answer slice of another length is judged apart; else the library answers.
+use Rattle.harness.proofs.FileAnswers.{picture-words, picture-other, picture-refuses, picture-accepts}
+use borrow.Author.Needs.{needs}
+use mathlib.Core.Path.{sym, _∙_}
+use lib.ListN.{length}
+use Rattle.harness.proofs.files.wt_write_pgm.Statement.{statement}
+use Rattle.harness.proofs.files.wt_write_pgm.Tie as tie
+
+holds-no-record-requires : tie.Need-holds-no-record-requires
+holds-no-record-requires c κs = search needs
+
+returns : tie.Need-returns
+returns c = picture-words (c .before .before .before .before .before .before .args .words .now) (c .before .before .before .before .before .before .args .levels .now) (c .before .before .before .before .before .before .args .out .now) (c .before .before .before .before .before .before .args .answer .now) (sym (c .before .holds-no-record .ensures) ∙ c .if1 .taken)
+
+read-record-requires : tie.Need-read-record-requires
+read-record-requires c κs = (sym (c .before .holds-no-record .ensures) ∙ c .if1 .left)
+
+picture-refusal-requires : tie.Need-picture-refusal-requires
+picture-refusal-requires c κs = search needs
+
+returns-2 : tie.Need-returns-2
+returns-2 c = picture-other (c .before .before .before .before .before .before .before .before .before .args .words .now) (c .before .before .before .before .before .before .before .before .before .args .levels .now) (c .before .before .before .before .before .before .before .before .before .args .out .now) (c .before .before .before .before .before .before .before .before .before .args .answer .now) (sym (c .before .before .before .before .holds-no-record .ensures) ∙ c .before .before .before .if1 .left) (c .before .before .read-record .result) (c .before .before .read-record .ensures) (c .before .if2 .taken) (c .picture-refusal .result) (c .picture-refusal .ensures)
+
+write-pgm-requires : tie.Need-write-pgm-requires
+write-pgm-requires c κs = search needs
+
+same-length : tie.Need-same-length
+same-length c = search needs
+
+returns-3 : tie.Need-returns-3
+returns-3 c = picture-refuses (c .before .before .before .before .before .before .before .before .before .before .before .before .before .args .words .now) (c .before .before .before .before .before .before .before .before .before .before .before .before .before .args .levels .now) (c .before .before .before .before .before .before .before .before .before .before .before .before .before .args .out .now) (c .before .before .before .before .before .before .before .before .before .before .before .before .before .args .answer .now) (sym (c .before .before .before .before .before .before .before .before .holds-no-record .ensures) ∙ c .before .before .before .before .before .before .before .if1 .left) (c .before .before .before .before .before .before .read-record .result) (c .before .before .before .before .before .before .read-record .ensures) (c .before .before .before .before .before .if2 .left) (c .before .before .before .write-pgm .result .refusal) (c .before .before .before .write-pgm .result .length) (c .before .before .before .write-pgm .last .1 .1 .0) (c .before .before .before .write-pgm .ensures) (c .if3 .taken)
+
+slice-write-answer : tie.Need-slice-write-answer
+slice-write-answer c = search needs
+
+same-length-2 : tie.Need-same-length-2
+same-length-2 c = search needs
+
+same-length-3 : tie.Need-same-length-3
+same-length-3 c = search needs
+
+returns-4 : tie.Need-returns-4
+returns-4 c = picture-accepts (c .before .before .before .before .before .before .before .before .before .before .before .before .before .args .words .now) (c .before .before .before .before .before .before .before .before .before .before .before .before .before .args .levels .now) (c .before .before .before .before .before .before .before .before .before .before .before .before .before .args .out .now) (c .before .before .before .before .before .before .before .before .before .before .before .before .before .args .answer .now) (sym (c .before .before .before .before .before .before .before .before .holds-no-record .ensures) ∙ c .before .before .before .before .before .before .before .if1 .left) (c .before .before .before .before .before .before .read-record .result) (c .before .before .before .before .before .before .read-record .ensures) (c .before .before .before .before .before .if2 .left) (c .before .before .before .write-pgm .result .refusal) (c .before .before .before .write-pgm .result .length) (c .before .before .before .write-pgm .last .1 .1 .0) (c .before .before .before .write-pgm .ensures) (c .if3 .left)
+
+pub wt-write-pgm-spec : {M : Type 1} → statement M
+wt-write-pgm-spec =
+    tie.close
+    (tie.spec
+    holds-no-record-requires
+    returns
+    read-record-requires
+    picture-refusal-requires
+    returns-2
+    write-pgm-requires
+    same-length
+    returns-3
+    slice-write-answer
+    same-length-2
+    same-length-3
+    returns-4)

@@ -1,0 +1,35 @@
+-- The words are read, and the library answers.
+use Rattle.harness.proofs.RunAnswers.{collect-words, collect-answers}
+use borrow.Author.Needs.{needs}
+use mathlib.Core.Path.{sym, _∙_}
+use Rattle.harness.proofs.runs.wt_collect.Statement.{statement}
+use Rattle.harness.proofs.runs.wt_collect.Tie as tie
+
+holds-no-record-requires : tie.Need-holds-no-record-requires
+holds-no-record-requires c κs = search needs
+
+returns : tie.Need-returns
+returns c = collect-words (c .before .before .before .before .before .args .words .now) (c .before .before .before .before .before .args .levels .now) (c .before .before .before .before .before .args .out .now) (sym (c .before .holds-no-record .ensures) ∙ c .if1 .taken)
+
+read-record-requires : tie.Need-read-record-requires
+read-record-requires c κs = (sym (c .before .holds-no-record .ensures) ∙ c .if1 .left)
+
+collect-requires : tie.Need-collect-requires
+collect-requires c κs = search needs
+
+same-length : tie.Need-same-length
+same-length c = search needs
+
+returns-2 : tie.Need-returns-2
+returns-2 c = collect-answers (c .before .before .before .before .before .before .before .before .before .before .args .words .now) (c .before .before .before .before .before .before .before .before .before .before .args .levels .now) (c .before .before .before .before .before .before .before .before .before .before .args .out .now) (sym (c .before .before .before .before .before .before .holds-no-record .ensures) ∙ c .before .before .before .before .before .if1 .left) (c .before .before .before .before .read-record .result) (c .before .before .before .before .read-record .ensures) (c .before .before .collect .result) (c .before .before .collect .last .1 .1 .0) (c .before .before .collect .ensures)
+
+pub wt-collect-spec : {M : Type 1} → statement M
+wt-collect-spec =
+    tie.close
+    (tie.spec
+    holds-no-record-requires
+    returns
+    read-record-requires
+    collect-requires
+    same-length
+    returns-2)

@@ -1,0 +1,54 @@
+-- The cells that are left have a wide one exactly where all the cells have.
+use Rattle.pgm.specs.WritePgm.{anyAbove}
+use Rattle.pgm.proofs.FinishedLaws.{above-found, above-passed, above-end}
+use borrow.Author.Needs.{needs}
+use Prim.Native.Nat.{_-_}
+use mathlib.Core.Path.{_≡_, refl, sym, _∙_}
+use lib.ListN.{length, drop}
+use Rattle.harness.proofs.words.any_wide_cell.Statement.{statement}
+use Rattle.harness.proofs.words.any_wide_cell.Tie as tie
+
+abbrev Inv-loop : tie.InvT-loop
+Inv-loop words i₀ i = anyAbove 255 (drop i words) ≡ anyAbove 255 (drop 6 words)
+
+abbrev μ-loop : tie.MeasureT-loop
+μ-loop words i₀ i = length words - i
+
+loop-holds : tie.Need-loop-holds Inv-loop μ-loop
+loop-holds c = refl
+
+mul-if1 : tie.Need-mul-if1 Inv-loop μ-loop
+mul-if1 c = search needs
+
+shared-slice-read-if1 : tie.Need-shared-slice-read-if1 Inv-loop μ-loop
+shared-slice-read-if1 c = search needs
+
+returns : tie.Need-returns Inv-loop μ-loop
+returns c = sym (sym (c .before .before .before .loop .inv) ∙ above-found 255 (c .before .before .before .before .args .words .now) (c .before .before .before .loop .i) (c .before .before .loop-test .taken) (c .if1 .taken))
+
+add-i : tie.Need-add-i Inv-loop μ-loop
+add-i c = search needs
+
+loop-less : tie.Need-loop-less Inv-loop μ-loop
+loop-less c = search needs
+
+loop-again : tie.Need-loop-again Inv-loop μ-loop
+loop-again c = sym (above-passed 255 (c .before .before .before .before .args .words .now) (c .before .before .before .loop .i) (c .before .before .loop-test .taken) (c .if1 .left)) ∙ c .before .before .before .loop .inv
+
+returns-2 : tie.Need-returns-2 Inv-loop μ-loop
+returns-2 c = sym (sym (c .before .loop .inv) ∙ above-end 255 (c .before .before .args .words .now) (c .before .loop .i) (c .loop-test .left))
+
+pub any-wide-cell-spec : {M : Type 1} → statement M
+any-wide-cell-spec =
+    tie.close
+    (tie.spec
+    Inv-loop
+    μ-loop
+    loop-holds
+    mul-if1
+    shared-slice-read-if1
+    returns
+    add-i
+    loop-less
+    loop-again
+    returns-2)

@@ -1,0 +1,63 @@
+-- The cells are filled one a turn, each from its word.
+use Rattle.basics.proofs.TableLaws.{Filling, filling-start, filling-turn, filling-end}
+use Rattle.harness.proofs.WordLaws.{record-length, record-cell, record-cells}
+use borrow.Author.Needs.{needs}
+use native.Mathlib.Omega.{arith}
+use Prim.Native.Nat.{_+_, _-_}
+use mathlib.Core.Path.{refl, sym, _∙_}
+use lib.ListN.{getD}
+use Rattle.harness.proofs.words.read_cells.Statement.{statement}
+use Rattle.harness.proofs.words.read_cells.Tie as tie
+
+abbrev Inv-loop : tie.InvT-loop
+Inv-loop words cells₀ k₀ cells k = Filling 49 (λ j. getD words (6 + j) 0) k cells
+
+abbrev μ-loop : tie.MeasureT-loop
+μ-loop words cells₀ k₀ cells k = 49 - k
+
+loop-holds : tie.Need-loop-holds Inv-loop μ-loop
+loop-holds c = filling-start _ _ _ refl
+
+add-byte-of : tie.Need-add-byte-of Inv-loop μ-loop
+add-byte-of c = search needs
+
+mul-byte-of : tie.Need-mul-byte-of Inv-loop μ-loop
+mul-byte-of c = search needs
+
+shared-slice-read-byte-of : tie.Need-shared-slice-read-byte-of Inv-loop μ-loop
+shared-slice-read-byte-of c = let s = record-length (c .before .before .before .before .args .words .now) (c .before .before .before .before .pre) in omega arith
+
+byte-of-requires : tie.Need-byte-of-requires Inv-loop μ-loop
+byte-of-requires c κs = record-cell (c .before .before .before .before .args .words .now) (c .before .before .before .before .pre) (c .before .before .loop .k) (c .before .loop-test .taken)
+
+array-write-cells : tie.Need-array-write-cells Inv-loop μ-loop
+array-write-cells c = search needs
+
+add-k : tie.Need-add-k Inv-loop μ-loop
+add-k c = search needs
+
+loop-less : tie.Need-loop-less Inv-loop μ-loop
+loop-less c = search needs
+
+loop-again : tie.Need-loop-again Inv-loop μ-loop
+loop-again c = filling-turn 49 _ _ _ _ (c .before .before .before .loop .inv) (c .before .before .loop-test .taken) (c .byte-of .ensures)
+
+returns : tie.Need-returns Inv-loop μ-loop
+returns c = filling-end 49 _ _ _ (c .before .loop .inv) (c .loop-test .left) ∙ sym (record-cells (c .before .before .before .args .words .now) (c .before .before .before .pre))
+
+pub read-cells-spec : {M : Type 1} → statement M
+read-cells-spec =
+    tie.close
+    (tie.spec
+    Inv-loop
+    μ-loop
+    loop-holds
+    add-byte-of
+    mul-byte-of
+    shared-slice-read-byte-of
+    byte-of-requires
+    array-write-cells
+    add-k
+    loop-less
+    loop-again
+    returns)

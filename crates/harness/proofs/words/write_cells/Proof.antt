@@ -1,0 +1,65 @@
+-- The cells are stored one a turn, after the six numbers.
+use Rattle.harness.proofs.WordLaws.{Stored, stored-none, stored-turn, stored-all}
+use borrow.Author.Needs.{needs}
+use native.Mathlib.Omega.{arith}
+use Prim.Native.Nat.{_-_}
+use mathlib.Core.Path.{sym, _∙_}
+use Rattle.harness.proofs.words.write_cells.Statement.{statement}
+use Rattle.harness.proofs.words.write_cells.Tie as tie
+
+abbrev Inv-loop : tie.InvT-loop
+Inv-loop words₀ cells k₀ words k = Stored words₀ cells k words
+
+abbrev μ-loop : tie.MeasureT-loop
+μ-loop words₀ cells k₀ words k = 49 - k
+
+loop-holds : tie.Need-loop-holds Inv-loop μ-loop
+loop-holds c = stored-none (c .before .args .words .now) (c .before .args .t1) (c .before .pre) (omega arith)
+
+array-read-word-of : tie.Need-array-read-word-of Inv-loop μ-loop
+array-read-word-of c = search needs
+
+word-of-requires : tie.Need-word-of-requires Inv-loop μ-loop
+word-of-requires c κs = search needs
+
+add-words : tie.Need-add-words Inv-loop μ-loop
+add-words c = search needs
+
+mul-words : tie.Need-mul-words Inv-loop μ-loop
+mul-words c = search needs
+
+slice-write-words : tie.Need-slice-write-words Inv-loop μ-loop
+slice-write-words c = let s = c .before .before .loop .inv .size in omega arith
+
+add-k : tie.Need-add-k Inv-loop μ-loop
+add-k c = search needs
+
+loop-less : tie.Need-loop-less Inv-loop μ-loop
+loop-less c = search needs
+
+loop-again : tie.Need-loop-again Inv-loop μ-loop
+loop-again c = stored-turn (c .before .before .before .before .args .words .now) (c .before .before .before .before .args .t1) (c .before .before .before .before .pre) (omega arith) (c .before .before .loop .k) (c .before .before .loop .words) (c .word-of .result) (c .before .before .loop .inv) (c .before .loop-test .taken) (c .word-of .ensures)
+
+same-length : tie.Need-same-length Inv-loop μ-loop
+same-length c = c .before .loop .inv .size ∙ sym (c .before .before .before .pre)
+
+returns : tie.Need-returns Inv-loop μ-loop
+returns c = stored-all (c .before .before .before .args .words .now) (c .before .before .before .args .t1) (c .before .before .before .pre) (omega arith) (c .before .loop .k) (c .before .loop .words) (c .before .loop .inv) (c .loop-test .left)
+
+pub write-cells-spec : {M : Type 1} → statement M
+write-cells-spec =
+    tie.close
+    (tie.spec
+    Inv-loop
+    μ-loop
+    loop-holds
+    array-read-word-of
+    word-of-requires
+    add-words
+    mul-words
+    slice-write-words
+    add-k
+    loop-less
+    loop-again
+    same-length
+    returns)

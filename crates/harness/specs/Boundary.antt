@@ -1,0 +1,34 @@
+-- What crosses the boundary to C: a record as 55 words, and the slices that take the answers beside a call's number.
+use Prim.Native.Nat.{ℕ}
+use mathlib.Core.Bool.{Bool, not, cond, _||_}
+use mathlib.Core.List.{List, [], _∷_}
+use lib.Dec.{eqb, ltb}
+use lib.ListN.{length, getD, drop}
+use Rattle.basics.specs.Refusals.{Refusal}
+use Rattle.run.specs.declared.Record.{Record}
+use Rattle.pgm.specs.WritePgm.{anyAbove}
+
+-- kind, width, height, cap, side, rows done, then the 49 cells
+abbrev pub wordsOf : Record → List ℕ
+wordsOf r = r .kind ∷ r .width ∷ r .height ∷ r .cap ∷ r .side ∷ r .rows ∷ r .cells
+
+abbrev pub recordOf : List ℕ → Record
+recordOf words =
+    record { kind = getD words 0 0; width = getD words 1 0; height = getD words 2 0; cap = getD words 3 0; side = getD words 4 0; rows = getD words 5 0; cells = drop 6 words }
+
+-- words that no record holds: not 55, or a kind or a cell that is more than a byte
+unfoldable pub holdsNoRecord : List ℕ → Bool
+holdsNoRecord words = not (eqb (length words) 55) || ltb 255 (getD words 0 0) || anyAbove 255 (drop 6 words)
+
+-- refusal 1 of words that should be a record, before all that a library call judges of the record
+abbrev pub wordsRefusal : List ℕ → Refusal
+wordsRefusal words = (1, holdsNoRecord words)
+
+-- refusal 11 of an answer slice that has not `size` words
+abbrev pub answerRefusal : ℕ → List ℕ → Refusal
+answerRefusal size answer = (11, not (eqb (length answer) size))
+
+-- a refusal set before those with numbers above 11, in a list of refusals that rise
+abbrev pub atEleven : Refusal → List Refusal → List Refusal
+atEleven own [] = own ∷ []
+atEleven own (r ∷ rest) = cond (ltb 11 (r .0)) (own ∷ r ∷ rest) (r ∷ atEleven own rest)

@@ -1,0 +1,3 @@
+pub mod Boundary
+pub mod Files
+pub mod Runs

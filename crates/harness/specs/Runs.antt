@@ -1,0 +1,45 @@
+-- What the calls on runs answer at the boundary: as the library's calls do, with the record as words.
+-- Each answers all slices lent to it for writing; a refused call leaves them all as they were.
+use Prim.Native.Nat.{ℕ}
+use mathlib.Core.Path.{_≡_}
+use mathlib.Core.Bool.{Bool, cond}
+use mathlib.Core.List.{List, [], _∷_, _++_}
+use Rattle.basics.specs.Refusals.{Answers}
+use Rattle.row.specs.RowRule.{none}
+use Rattle.run.specs.declared.Record.{Record}
+use Rattle.run.specs.Records.{marginOf}
+use Rattle.run.specs.Starting.{startRecord, startLevels, erosionRefusals, dilationRefusals}
+use Rattle.run.specs.Continuing.{continueRefusals, continued}
+use Rattle.run.specs.Pictures.{collected, collectRefusals, thresholded, thresholdRefusals}
+use Rattle.harness.specs.Boundary.{wordsOf, recordOf, wordsRefusal, answerRefusal, atEleven}
+
+-- starting: the levels, and the record
+abbrev pub StartsErosionWords : ℕ → ℕ → List ℕ → ℕ → List ℕ → List ℕ → List ℕ → ℕ → List ℕ × List ℕ → Type 0
+StartsErosionWords width height sheet side cells levels words =
+    Answers (erosionRefusals width height sheet side cells levels ++ answerRefusal 55 words ∷ []) (levels, words)
+    (λ after. after ≡ (startLevels width height 0 sheet none 0, wordsOf (startRecord 1 width height 0 side cells)))
+
+abbrev pub StartsDilationWords : ℕ → ℕ → List ℕ → ℕ → List ℕ → ℕ → List ℕ → List ℕ → ℕ → List ℕ × List ℕ → Type 0
+StartsDilationWords width height sheet side cells cap levels words =
+    Answers (dilationRefusals width height sheet side cells cap levels ++ answerRefusal 55 words ∷ []) (levels, words)
+    (λ after. after ≡ (startLevels width height (marginOf cap side) sheet 1 none, wordsOf (startRecord 2 width height cap side cells)))
+
+-- continuing: the record, the levels, and whether all rows are done, as 1 or 0
+abbrev pub flag : Bool → ℕ
+flag b = cond b 1 0
+
+abbrev pub continueWords : Record × Bool × List ℕ → List ℕ × List ℕ × List ℕ
+continueWords (run, all, levels) = (wordsOf run, levels, flag all ∷ [])
+
+abbrev pub ContinuesWords : List ℕ → List ℕ → ℕ → List ℕ → ℕ → List ℕ × List ℕ × List ℕ → Type 0
+ContinuesWords words levels allowance done =
+    Answers (wordsRefusal words ∷ atEleven (answerRefusal 1 done) (continueRefusals (recordOf words) levels allowance)) (words, levels, done)
+    (λ after. after ≡ continueWords (continued (recordOf words) levels allowance))
+
+-- collecting and thresholding: the output
+abbrev pub CollectsWords : List ℕ → List ℕ → List ℕ → ℕ → List ℕ → Type 0
+CollectsWords words levels out = Answers (wordsRefusal words ∷ collectRefusals (recordOf words) levels out) out (λ after. after ≡ collected (recordOf words) levels)
+
+abbrev pub ThresholdsWords : List ℕ → List ℕ → ℕ → List ℕ → ℕ → List ℕ → Type 0
+ThresholdsWords words levels size out =
+    Answers (wordsRefusal words ∷ thresholdRefusals (recordOf words) levels size out) out (λ after. after ≡ thresholded (recordOf words) levels size)

@@ -1,0 +1,112 @@
+// Opening, closing and their transforms: the library's own contracts, at the boundary's numbers.
+ghost use Rattle.filters.specs.Filters.{Opens, Closes, OpeningLevels, ClosingLevels};
+
+// Public: the sheet opened by a size, into `out`. Refusals 2 to 8, 10, 11.
+#[no_mangle]
+pub extern "C" fn wt_open(
+    width: u64,
+    height: u64,
+    sheet: &[u8],
+    side: u64,
+    cells: &[u8],
+    size: u64,
+    first: &mut [u16],
+    second: &mut [u16],
+    out: &mut [u8],
+) -> u32
+    ensures { λ r. ⌜ Opens width height (now (sheet .entry)) side (now (cells .entry)) size (record { first = now (first .entry); second = now (second .entry); out = now (out .entry) }) r (record { first = now (first .exit); second = now (second .exit); out = now (out .exit) }) ⌝ }
+{
+    filters::open(
+        width as usize,
+        height as usize,
+        sheet,
+        side as usize,
+        cells,
+        size as usize,
+        first,
+        second,
+        out,
+    )
+}
+
+// Public: the sheet closed by a size, into `out`. Refusals 2 to 11.
+#[no_mangle]
+pub extern "C" fn wt_close(
+    width: u64,
+    height: u64,
+    sheet: &[u8],
+    side: u64,
+    cells: &[u8],
+    size: u64,
+    first: &mut [u16],
+    second: &mut [u16],
+    out: &mut [u8],
+) -> u32
+    ensures { λ r. ⌜ Closes width height (now (sheet .entry)) side (now (cells .entry)) size (record { first = now (first .entry); second = now (second .entry); out = now (out .entry) }) r (record { first = now (first .exit); second = now (second .exit); out = now (out .exit) }) ⌝ }
+{
+    filters::close(
+        width as usize,
+        height as usize,
+        sheet,
+        side as usize,
+        cells,
+        size as usize,
+        first,
+        second,
+        out,
+    )
+}
+
+// Public: the opening levels, into `out`. Refusals 2 to 7, 10, 11.
+#[no_mangle]
+pub extern "C" fn wt_opening_levels(
+    width: u64,
+    height: u64,
+    sheet: &[u8],
+    side: u64,
+    cells: &[u8],
+    first: &mut [u16],
+    second: &mut [u16],
+    out: &mut [u16],
+) -> u32
+    ensures { λ r. ⌜ OpeningLevels width height (now (sheet .entry)) side (now (cells .entry)) (record { first = now (first .entry); second = now (second .entry); out = now (out .entry) }) r (record { first = now (first .exit); second = now (second .exit); out = now (out .exit) }) ⌝ }
+{
+    filters::opening_levels(
+        width as usize,
+        height as usize,
+        sheet,
+        side as usize,
+        cells,
+        first,
+        second,
+        out,
+    )
+}
+
+// Public: the closing levels up to a cap, into `out`. Refusals 2 to 11.
+#[no_mangle]
+pub extern "C" fn wt_closing_levels(
+    width: u64,
+    height: u64,
+    sheet: &[u8],
+    side: u64,
+    cells: &[u8],
+    cap: u64,
+    first: &mut [u16],
+    second: &mut [u16],
+    out: &mut [u16],
+) -> u32
+    ensures { λ r. ⌜ ClosingLevels width height (now (sheet .entry)) side (now (cells .entry)) cap (record { first = now (first .entry); second = now (second .entry); out = now (out .entry) }) r (record { first = now (first .exit); second = now (second .exit); out = now (out .exit) }) ⌝ }
+{
+    filters::closing_levels(
+        width as usize,
+        height as usize,
+        sheet,
+        side as usize,
+        cells,
+        cap as usize,
+        first,
+        second,
+        out,
+    )
+}

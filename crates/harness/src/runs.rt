@@ -1,0 +1,214 @@
+// Runs: started, continued, collected and thresholded, with the record as words.
+use super::words;
+ghost use mathlib.Core.Path.{_≡_};
+ghost use Rattle.basics.specs.Refusals.{first};
+ghost use Rattle.run.specs.Starting.{erosionRefusals, dilationRefusals};
+ghost use Rattle.harness.specs.Runs.{flag, StartsErosionWords, StartsDilationWords, ContinuesWords, CollectsWords, ThresholdsWords};
+
+// Public: the frame's levels of a finished run, into `out`. Refusals 1, 10, 11, 13.
+#[no_mangle]
+pub extern "C" fn wt_collect(words: &[u64], levels: &[u16], out: &mut [u16]) -> u32
+    ensures { λ r. ⌜ CollectsWords (now (words .entry)) (now (levels .entry)) (now (out .entry)) r (now (out .exit)) ⌝ }
+{
+    if words::holds_no_record(words) {
+        return 1;
+    }
+    let run = words::read_record(words);
+    run::pictures::collect(run, levels, out)
+}
+
+// Public: the sheet that a finished run holds at a size, into `out`. Refusals 1, 8, 10, 11, 13.
+#[no_mangle]
+pub extern "C" fn wt_threshold(words: &[u64], levels: &[u16], size: u64, out: &mut [u8]) -> u32
+    ensures { λ r. ⌜ ThresholdsWords (now (words .entry)) (now (levels .entry)) size (now (out .entry)) r (now (out .exit)) ⌝ }
+{
+    if words::holds_no_record(words) {
+        return 1;
+    }
+    let run = words::read_record(words);
+    run::pictures::threshold(run, levels, size as usize, out)
+}
+
+// 1 where it is so, else 0.
+fn flag_of(all: bool) -> u64
+    ensures { λ r. ⌜ r ≡ flag all ⌝ }
+{
+    if all {
+        return 1;
+    }
+    0
+}
+
+// Public: works the allowance of rows or what is due, the lesser; `done` becomes 1 when all rows are done, else 0. Refusals 1, 10, 11, 12.
+#[no_mangle]
+pub extern "C" fn wt_continue(
+    words: &mut [u64],
+    levels: &mut [u16],
+    allowance: u64,
+    done: &mut [u64],
+) -> u32
+    ensures { λ r. ⌜ ContinuesWords (now (words .entry)) (now (levels .entry)) allowance (now (done .entry)) r (now (words .exit), now (levels .exit), now (done .exit)) ⌝ }
+{
+    if words::holds_no_record(words) {
+        return 1;
+    }
+    let run = words::read_record(words);
+    if run::records::record_bad(run) {
+        return 1;
+    }
+    if run::records::levels_wrong(run, levels) {
+        return 10;
+    }
+    if done.len() != 1 {
+        return 11;
+    }
+    let worked = run::continuing::continue_run(run, levels, allowance as usize);
+    let refusal = worked.refusal;
+    if refusal != 0 {
+        return refusal;
+    }
+    let next = worked.run;
+    words::write_record(next, words);
+    let all = flag_of(worked.done);
+    done[0] = all;
+    0
+}
+
+// The refusal of a start of an erosion, or 0.
+fn erosion_refusal(
+    width: usize,
+    height: usize,
+    sheet: &[u8],
+    side: usize,
+    cells: &[u8],
+    levels: &[u16],
+) -> u32
+    ensures { λ r. ⌜ r ≡ first (erosionRefusals width height (now (sheet .entry)) side (now (cells .entry)) (now (levels .entry))) ⌝ }
+{
+    let refusal = sheet::sheet_refusal(width, height, sheet);
+    if refusal != 0 {
+        return refusal;
+    }
+    let refusal = element::element_refusal(side, cells);
+    if refusal != 0 {
+        return refusal;
+    }
+    if levels.len() != height * width {
+        return 10;
+    }
+    0
+}
+
+// Public: starts an erosion; its record goes into `words`. Refusals 2 to 7, 10, 11.
+#[no_mangle]
+pub extern "C" fn wt_start_erosion(
+    width: u64,
+    height: u64,
+    sheet: &[u8],
+    side: u64,
+    cells: &[u8],
+    levels: &mut [u16],
+    words: &mut [u64],
+) -> u32
+    ensures { λ r. ⌜ StartsErosionWords width height (now (sheet .entry)) side (now (cells .entry)) (now (levels .entry)) (now (words .entry)) r (now (levels .exit), now (words .exit)) ⌝ }
+{
+    let columns = width as usize;
+    let rows = height as usize;
+    let element_side = side as usize;
+    if words.len() != 55 {
+        let refusal = erosion_refusal(columns, rows, sheet, element_side, cells, levels);
+        if refusal != 0 {
+            return refusal;
+        }
+        return 11;
+    }
+    let started = run::starting::start_erosion(columns, rows, sheet, element_side, cells, levels);
+    let refusal = started.refusal;
+    if refusal != 0 {
+        return refusal;
+    }
+    let run = started.run;
+    words::write_record(run, words);
+    0
+}
+
+// The refusal of a start of a dilation, or 0.
+fn dilation_refusal(
+    width: usize,
+    height: usize,
+    sheet: &[u8],
+    side: usize,
+    cells: &[u8],
+    cap: usize,
+    levels: &[u16],
+) -> u32
+    ensures { λ r. ⌜ r ≡ first (dilationRefusals width height (now (sheet .entry)) side (now (cells .entry)) cap (now (levels .entry))) ⌝ }
+{
+    let refusal = sheet::sheet_refusal(width, height, sheet);
+    if refusal != 0 {
+        return refusal;
+    }
+    let refusal = element::element_refusal(side, cells);
+    if refusal != 0 {
+        return refusal;
+    }
+    if 2047 < cap {
+        return 8;
+    }
+    let margin = run::records::margin_of(cap, side);
+    let canvas_width = width + (margin + margin);
+    let canvas_height = height + (margin + margin);
+    if 4096 < canvas_width {
+        return 9;
+    }
+    if 4096 < canvas_height {
+        return 9;
+    }
+    if levels.len() != canvas_height * canvas_width {
+        return 10;
+    }
+    0
+}
+
+// Public: starts a dilation; its record goes into `words`. Refusals 2 to 11.
+#[no_mangle]
+pub extern "C" fn wt_start_dilation(
+    width: u64,
+    height: u64,
+    sheet: &[u8],
+    side: u64,
+    cells: &[u8],
+    cap: u64,
+    levels: &mut [u16],
+    words: &mut [u64],
+) -> u32
+    ensures { λ r. ⌜ StartsDilationWords width height (now (sheet .entry)) side (now (cells .entry)) cap (now (levels .entry)) (now (words .entry)) r (now (levels .exit), now (words .exit)) ⌝ }
+{
+    let columns = width as usize;
+    let rows = height as usize;
+    let element_side = side as usize;
+    let highest = cap as usize;
+    if words.len() != 55 {
+        let refusal = dilation_refusal(columns, rows, sheet, element_side, cells, highest, levels);
+        if refusal != 0 {
+            return refusal;
+        }
+        return 11;
+    }
+    let started = run::starting::start_dilation(
+        columns,
+        rows,
+        sheet,
+        element_side,
+        cells,
+        highest,
+        levels,
+    );
+    let refusal = started.refusal;
+    if refusal != 0 {
+        return refusal;
+    }
+    let run = started.run;
+    words::write_record(run, words);
+    0
+}

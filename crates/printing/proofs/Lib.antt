@@ -1,0 +1,7 @@
+pub mod RefusedLaws
+pub mod CrossLaws
+pub mod LevelBounds
+pub mod PageLaws
+pub mod InputLaws
+pub mod Meaning
+pub mod PrintedExamples

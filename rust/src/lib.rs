@@ -1,0 +1,349 @@
+//! Erosion, dilation, opening and closing of bilevel sheets, over the verified library `libharness.a`.
+//!
+//! A [`Sheet`] is a set of foreground points on the infinite grid, seen through a frame; all beyond the frame is
+//! background. An [`Element`] is a small set around its origin. A [`Run`] finds, at every point of the frame, up to
+//! which size an erosion keeps it or from which size a dilation reaches it; it can be worked in slices of rows, and
+//! gives no picture before all its rows are done.
+//!
+//! ```
+//! use walugtirim::{Element, Run, Sheet};
+//!
+//! # fn main() -> Result<(), walugtirim::Refusal> {
+//! let sheet = Sheet::new(3, 3, vec![0xE0; 3]);
+//! let mut run = Run::start_erosion(&sheet, &Element::cross())?;
+//! while !run.continue_by(2)? {}
+//! assert_eq!(run.collect()?, [1, 1, 1, 1, 2, 1, 1, 1, 1]);
+//! # Ok(())
+//! # }
+//! ```
+//!
+//! The library judges every argument itself and refuses bad ones by number, so this crate never checks an argument for
+//! it: it only allocates what the call needs. Where an argument is so wrong that nothing can be allocated for it (a
+//! frame of 2^60 by 2^60, say), it lends an empty buffer, and the library gives the refusal that comes first.
+#![deny(unsafe_code)]
+
+mod raw;
+mod refusal;
+mod room;
+
+pub use refusal::Refusal;
+
+use raw::{Given, Record};
+
+/// The words of a record.
+pub const RECORD_WORDS: usize = 55;
+
+/// The largest allowance that [`Run::continue_by`] accepts.
+pub const MOST_ALLOWANCE: u64 = 8192;
+
+/// A bilevel sheet: the raster of a raw PBM, with its frame.
+///
+/// Rows go from top to bottom, each padded to a whole byte; the leftmost pixel is the highest bit, and 1 is
+/// foreground. Padding bits never matter. The fields may hold anything: a call on an unsound sheet is refused.
+#[derive(Clone, Debug, PartialEq, Eq)]
+pub struct Sheet {
+    pub width: u64,
+    pub height: u64,
+    pub bytes: Vec<u8>,
+}
+
+impl Sheet {
+    /// A sheet of these packed bytes.
+    #[must_use]
+    pub fn new(width: u64, height: u64, bytes: Vec<u8>) -> Sheet {
+        Sheet {
+            width,
+            height,
+            bytes,
+        }
+    }
+
+    /// A sheet without foreground. Its bytes are empty where the frame is out of range.
+    #[must_use]
+    pub fn background(width: u64, height: u64) -> Sheet {
+        Sheet::new(width, height, vec![0; room::sheet_bytes(width, height)])
+    }
+
+    /// Whether the pixel is foreground; beyond the frame none is.
+    #[must_use]
+    pub fn pixel(&self, column: u64, row: u64) -> bool {
+        self.place(column, row)
+            .is_some_and(|(byte, bit)| self.bytes[byte] & bit != 0)
+    }
+
+    /// Sets or clears a pixel; beyond the frame nothing happens.
+    pub fn set_pixel(&mut self, column: u64, row: u64, foreground: bool) {
+        if let Some((byte, bit)) = self.place(column, row) {
+            if foreground {
+                self.bytes[byte] |= bit;
+            } else {
+                self.bytes[byte] &= !bit;
+            }
+        }
+    }
+
+    /// Where a pixel of the frame lies: its byte, and its bit in that byte.
+    fn place(&self, column: u64, row: u64) -> Option<(usize, u8)> {
+        if column >= self.width || row >= self.height {
+            return None;
+        }
+        let byte = row
+            .checked_mul(self.width.div_ceil(8))?
+            .checked_add(column / 8)?;
+        let byte = usize::try_from(byte).ok()?;
+        (byte < self.bytes.len()).then_some((byte, 0x80 >> (column % 8)))
+    }
+
+    /// Reads a raw PBM file.
+    ///
+    /// # Errors
+    /// 21, 22, 2, 23 or 24, the first in this order.
+    pub fn read_pbm(file: &[u8]) -> Result<Sheet, Refusal> {
+        // The raster is a part of the file, so the file's own length is room enough.
+        let mut bytes = vec![0; file.len()];
+        let [width, height] = raw::read_pbm(file, &mut bytes)?;
+        bytes.truncate(room::sheet_bytes(width, height));
+        Ok(Sheet::new(width, height, bytes))
+    }
+
+    /// Writes a raw PBM file.
+    ///
+    /// # Errors
+    /// 2 or 3, the first in this order.
+    pub fn write_pbm(&self) -> Result<Vec<u8>, Refusal> {
+        let mut file = vec![0; room::pbm_bytes(self.bytes.len())];
+        let length = raw::write_pbm(self.width, self.height, &self.bytes, &mut file)?;
+        file.truncate(room::count(length));
+        Ok(file)
+    }
+
+    /// Opens the sheet by a size, 0 to 4096: erodes by it, then dilates by it.
+    ///
+    /// # Errors
+    /// 2 to 8, the lowest that applies.
+    pub fn open(&self, element: &Element, size: u64) -> Result<Sheet, Refusal> {
+        let area = room::frame_points(self.width, self.height);
+        let (mut work_a, mut work_b) = (vec![0; area], vec![0; area]);
+        let mut opened = Sheet::background(self.width, self.height);
+        raw::open(
+            self.given(element),
+            size,
+            &mut work_a,
+            &mut work_b,
+            &mut opened.bytes,
+        )?;
+        Ok(opened)
+    }
+
+    /// Closes the sheet by a size, 0 to 2047: dilates by it on the infinite grid, then erodes by it.
+    ///
+    /// # Errors
+    /// 2 to 9, the lowest that applies.
+    pub fn close(&self, element: &Element, size: u64) -> Result<Sheet, Refusal> {
+        let area = room::canvas_points(self.width, self.height, element.side, size);
+        let (mut work_a, mut work_b) = (vec![0; area], vec![0; area]);
+        let mut closed = Sheet::background(self.width, self.height);
+        raw::close(
+            self.given(element),
+            size,
+            &mut work_a,
+            &mut work_b,
+            &mut closed.bytes,
+        )?;
+        Ok(closed)
+    }
+
+    /// The opening level of every point of the frame, row by row.
+    ///
+    /// # Errors
+    /// 2 to 7, the lowest that applies.
+    pub fn opening_levels(&self, element: &Element) -> Result<Vec<u16>, Refusal> {
+        let area = room::frame_points(self.width, self.height);
+        let (mut work_a, mut work_b) = (vec![0; area], vec![0; area]);
+        let mut levels = vec![0; area];
+        raw::opening_levels(self.given(element), &mut work_a, &mut work_b, &mut levels)?;
+        Ok(levels)
+    }
+
+    /// The closing level of every point of the frame, row by row, up to a cap of 0 to 2047: 0 where it is above
+    /// `cap + 1`.
+    ///
+    /// # Errors
+    /// 2 to 9, the lowest that applies.
+    pub fn closing_levels(&self, element: &Element, cap: u64) -> Result<Vec<u16>, Refusal> {
+        let area = room::canvas_points(self.width, self.height, element.side, cap);
+        let (mut work_a, mut work_b) = (vec![0; area], vec![0; area]);
+        let mut levels = vec![0; room::frame_points(self.width, self.height)];
+        raw::closing_levels(
+            self.given(element),
+            cap,
+            &mut work_a,
+            &mut work_b,
+            &mut levels,
+        )?;
+        Ok(levels)
+    }
+
+    fn given<'a>(&'a self, element: &'a Element) -> Given<'a> {
+        Given {
+            width: self.width,
+            height: self.height,
+            sheet: &self.bytes,
+            side: element.side,
+            cells: &element.bytes,
+        }
+    }
+}
+
+/// An element: a side of 3, 5 or 7 and `side * side` cells, each 0 or 1, row by row, the origin at the centre.
+///
+/// The fields may hold anything: a call with an unsound element is refused.
+#[derive(Clone, Debug, PartialEq, Eq)]
+pub struct Element {
+    pub side: u64,
+    pub bytes: Vec<u8>,
+}
+
+impl Element {
+    /// An element of these cells.
+    #[must_use]
+    pub fn new(side: u64, bytes: Vec<u8>) -> Element {
+        Element { side, bytes }
+    }
+
+    /// The origin and its four neighbours.
+    #[must_use]
+    pub fn cross() -> Element {
+        Element::new(3, vec![0, 1, 0, 1, 1, 1, 0, 1, 0])
+    }
+
+    /// All nine cells of side 3.
+    #[must_use]
+    pub fn square() -> Element {
+        Element::new(3, vec![1; 9])
+    }
+
+    /// The element turned about its origin: its cell at each `b` is this one's at `-b`.
+    ///
+    /// # Errors
+    /// 4 to 7, the lowest that applies.
+    pub fn reflect(&self) -> Result<Element, Refusal> {
+        let mut bytes = vec![0; self.bytes.len()];
+        raw::reflect(self.side, &self.bytes, &mut bytes)?;
+        Ok(Element::new(self.side, bytes))
+    }
+}
+
+/// An erosion or a dilation under way: its record and its levels.
+#[derive(Clone, Debug, PartialEq, Eq)]
+pub struct Run {
+    record: Record,
+    levels: Vec<u16>,
+}
+
+impl Run {
+    /// Starts an erosion; no row is worked yet.
+    ///
+    /// # Errors
+    /// 2 to 7, the lowest that applies.
+    pub fn start_erosion(sheet: &Sheet, element: &Element) -> Result<Run, Refusal> {
+        let mut levels = vec![0; room::frame_points(sheet.width, sheet.height)];
+        let record = raw::start_erosion(sheet.given(element), &mut levels)?;
+        Ok(Run { record, levels })
+    }
+
+    /// Starts a dilation up to a cap of 0 to 2047; no row is worked yet.
+    ///
+    /// # Errors
+    /// 2 to 9, the lowest that applies.
+    pub fn start_dilation(sheet: &Sheet, element: &Element, cap: u64) -> Result<Run, Refusal> {
+        let area = room::canvas_points(sheet.width, sheet.height, element.side, cap);
+        let mut levels = vec![0; area];
+        let record = raw::start_dilation(sheet.given(element), cap, &mut levels)?;
+        Ok(Run { record, levels })
+    }
+
+    /// A run as a batch system has kept it: the record and the levels of [`Run::into_parts`].
+    ///
+    /// Nothing is judged here; the next call on the run refuses what no start could have given.
+    #[must_use]
+    pub fn from_parts(record: [u64; RECORD_WORDS], levels: Vec<u16>) -> Run {
+        Run { record, levels }
+    }
+
+    /// The record and the levels, to be kept between slices.
+    #[must_use]
+    pub fn into_parts(self) -> ([u64; RECORD_WORDS], Vec<u16>) {
+        (self.record, self.levels)
+    }
+
+    /// The record: kind, width, height, cap, side, rows done, and the 49 cells of the element.
+    #[must_use]
+    pub fn record(&self) -> &[u64; RECORD_WORDS] {
+        &self.record
+    }
+
+    /// The levels as they stand, of the frame (erosion) or of the whole canvas (dilation). They are no picture: that
+    /// is what [`Run::collect`] gives, once all rows are done.
+    #[must_use]
+    pub fn levels(&self) -> &[u16] {
+        &self.levels
+    }
+
+    /// Rows worked so far.
+    #[must_use]
+    pub fn rows_done(&self) -> u64 {
+        self.record[5]
+    }
+
+    /// Works so many rows (0 to 8192), or those still due where these are fewer. Answers whether all are done.
+    ///
+    /// # Errors
+    /// 1, 10 or 12, the lowest that applies; a run that a start gave can only earn 12.
+    pub fn continue_by(&mut self, allowance: u64) -> Result<bool, Refusal> {
+        raw::continue_run(&mut self.record, &mut self.levels, allowance)
+    }
+
+    /// Works all rows still due.
+    ///
+    /// # Errors
+    /// 1 or 10, where the run is none that a start gave.
+    pub fn finish(&mut self) -> Result<(), Refusal> {
+        // 2 * 4096 rows at most are due, so the first slice ends it; the loop only spares the reader that proof.
+        while !self.continue_by(MOST_ALLOWANCE)? {}
+        Ok(())
+    }
+
+    /// The finished levels of the frame, row by row.
+    ///
+    /// # Errors
+    /// 1, 10 or 13, the lowest that applies.
+    pub fn collect(&self) -> Result<Vec<u16>, Refusal> {
+        let mut levels = vec![0; room::frame_points(self.record[1], self.record[2])];
+        raw::collect(&self.record, &self.levels, &mut levels)?;
+        Ok(levels)
+    }
+
+    /// The eroded or dilated sheet of one size: up to 4096 for an erosion, up to the cap for a dilation.
+    ///
+    /// # Errors
+    /// 1, 8, 10 or 13, the lowest that applies.
+    pub fn threshold(&self, size: u64) -> Result<Sheet, Refusal> {
+        let mut sheet = Sheet::background(self.record[1], self.record[2]);
+        raw::threshold(&self.record, &self.levels, size, &mut sheet.bytes)?;
+        Ok(sheet)
+    }
+
+    /// The finished levels as a plain PGM file.
+    ///
+    /// # Errors
+    /// 1, 10 or 13, the lowest that applies, as in collecting; 8 where a level is above the maximum, which only
+    /// levels that no run made can be.
+    pub fn write_pgm(&self) -> Result<Vec<u8>, Refusal> {
+        let levels = self.collect()?;
+        let mut file = vec![0; room::pgm_bytes(levels.len())];
+        let length = raw::write_pgm(&self.record, &levels, &mut file)?;
+        file.truncate(room::count(length));
+        Ok(file)
+    }
+}

@@ -1,0 +1,150 @@
+//! The small sheets of document 01, worked by hand, through the safe functions; and that no argument, however wrong,
+//! does more than be refused.
+
+use walugtirim::{Element, Refusal, Run, Sheet};
+
+/// A sheet of one row, `1` being foreground.
+fn row(pixels: &str) -> Sheet {
+    let mut sheet = Sheet::background(pixels.len() as u64, 1);
+    for (column, pixel) in pixels.chars().enumerate() {
+        sheet.set_pixel(column as u64, 0, pixel == '1');
+    }
+    sheet
+}
+
+/// The origin with its right neighbour.
+fn t() -> Element {
+    Element::new(3, vec![0, 0, 0, 0, 1, 1, 0, 0, 0])
+}
+
+fn erosion(sheet: &Sheet, element: &Element) -> Vec<u16> {
+    let mut run = Run::start_erosion(sheet, element).unwrap();
+    run.finish().unwrap();
+    run.collect().unwrap()
+}
+
+fn dilation(sheet: &Sheet, element: &Element, cap: u64) -> Vec<u16> {
+    let mut run = Run::start_dilation(sheet, element, cap).unwrap();
+    run.finish().unwrap();
+    run.collect().unwrap()
+}
+
+fn number<T>(result: Result<T, Refusal>) -> u32 {
+    result.err().map_or(0, Refusal::number)
+}
+
+#[test]
+fn full_sheet_and_cross() {
+    let sheet = Sheet::new(3, 3, vec![0xE0; 3]);
+    let mut run = Run::start_erosion(&sheet, &Element::cross()).unwrap();
+    assert!(!run.continue_by(4).unwrap());
+    assert_eq!(run.rows_done(), 4);
+    assert_eq!(number(run.collect()), 13);
+    assert_eq!(number(run.threshold(0)), 13);
+    assert_eq!(number(run.write_pgm()), 13);
+    assert_eq!(number(run.continue_by(8193)), 12);
+    assert!(run.continue_by(8192).unwrap());
+    assert_eq!(run.collect().unwrap(), [1, 1, 1, 1, 2, 1, 1, 1, 1]);
+    assert_eq!(run.threshold(1).unwrap().bytes, [0, 0x40, 0]);
+    assert_eq!(run.threshold(2).unwrap().bytes, [0, 0, 0]);
+    let text = "P2\n# rows 6 of 6\n3 3\n3\n1 1 1\n1 2 1\n1 1 1\n";
+    assert_eq!(run.write_pgm().unwrap(), text.as_bytes());
+}
+
+#[test]
+fn one_neighbour_and_its_reflection() {
+    let full = row("11111");
+    let mut run = Run::start_erosion(&full, &t()).unwrap();
+    assert!(!run.continue_by(1).unwrap());
+    assert_eq!(run.levels(), [65535; 5]);
+    assert!(run.continue_by(1).unwrap());
+    assert_eq!(run.collect().unwrap(), [5, 4, 3, 2, 1]);
+    assert_eq!(erosion(&full, &t().reflect().unwrap()), [1, 2, 3, 4, 5]);
+    assert_eq!(dilation(&row("00100"), &t(), 2), [0, 0, 1, 2, 3]);
+    assert_eq!(dilation(&row("00100"), &t(), 1), [0, 0, 1, 2, 0]);
+}
+
+#[test]
+fn dilation_is_not_clipped_between_steps() {
+    let element = Element::new(3, vec![0, 0, 0, 1, 1, 0, 0, 0, 1]);
+    let column = Sheet::new(1, 2, vec![0x80, 0]);
+    assert_eq!(dilation(&column, &element, 2), [1, 3]);
+    assert_eq!(dilation(&column, &element, 1), [1, 0]);
+}
+
+#[test]
+fn opening_and_closing() {
+    let sheet = row("10111");
+    assert_eq!(erosion(&sheet, &t()), [1, 0, 3, 2, 1]);
+    assert_eq!(sheet.opening_levels(&t()).unwrap(), [1, 0, 3, 3, 3]);
+    assert_eq!(sheet.open(&t(), 1).unwrap(), row("00111"));
+    let ends = row("1001");
+    assert_eq!(ends.closing_levels(&t(), 2).unwrap(), [1, 3, 3, 1]);
+    assert_eq!(ends.closing_levels(&t(), 1).unwrap(), [1, 0, 0, 1]);
+    assert_eq!(ends.close(&t(), 2).unwrap(), row("1111"));
+}
+
+#[test]
+fn files_go_there_and_back() {
+    let sheet = Sheet::new(9, 2, vec![0xAA, 0xFF, 0x55, 0x7F]);
+    let file = sheet.write_pbm().unwrap();
+    assert_eq!(file, b"P4\n9 2\n\xAA\x80\x55\x00");
+    let back = Sheet::read_pbm(&file).unwrap();
+    assert_eq!(back, Sheet::new(9, 2, vec![0xAA, 0x80, 0x55, 0x00]));
+    for (file, refusal) in [
+        (&b"P5\n1 1\n\0"[..], 21),
+        (b"P4\n1 x\n\0", 22),
+        (b"P4\n0 1\n\0", 2),
+        (b"P4\n1 1\n", 23),
+        (b"P4\n1 1\n\0\0", 24),
+        (b"", 21),
+    ] {
+        assert_eq!(number(Sheet::read_pbm(file)), refusal);
+    }
+}
+
+#[test]
+fn no_argument_is_too_wrong() {
+    let huge = [0, 4097, u64::MAX / 2, u64::MAX];
+    for side in huge {
+        let sheet = Sheet::background(side, side);
+        assert_eq!(number(Run::start_erosion(&sheet, &t())), 2);
+        assert_eq!(number(Run::start_dilation(&sheet, &t(), u64::MAX)), 2);
+        assert_eq!(number(sheet.close(&t(), 1)), 2);
+        assert_eq!(number(sheet.write_pbm()), 2);
+        assert!(!sheet.pixel(0, 0));
+        let element = Element::new(side, vec![1; 9]);
+        assert_eq!(number(element.reflect()), 4);
+        assert_eq!(number(row("1").open(&element, 1)), 4);
+        assert_eq!(number(row("1").close(&element, side)), 4);
+    }
+    assert_eq!(number(row("1").open(&t(), 4097)), 8);
+    assert_eq!(number(row("1").close(&t(), u64::MAX)), 8);
+    assert_eq!(number(row("1").closing_levels(&t(), 2048)), 8);
+    // A margin of 2,047 on both sides leaves room for a frame of at most 2.
+    assert_eq!(number(row("111").close(&t(), 2047)), 9);
+    let mut foreign = Run::from_parts([u64::MAX; 55], vec![]);
+    assert_eq!(number(foreign.continue_by(1)), 1);
+    assert_eq!(number(foreign.collect()), 1);
+    assert_eq!(number(foreign.threshold(0)), 1);
+    assert_eq!(number(foreign.write_pgm()), 1);
+}
+
+#[test]
+fn a_kept_run_goes_on() {
+    let sheet = Sheet::new(5, 4, vec![0xF8, 0x78, 0xF0, 0xD8]);
+    let whole = dilation(&sheet, &Element::square(), 3);
+    let mut run = Run::start_dilation(&sheet, &Element::square(), 3).unwrap();
+    while !run.continue_by(3).unwrap() {
+        let (record, levels) = run.into_parts();
+        run = Run::from_parts(record, levels);
+    }
+    assert_eq!(run.collect().unwrap(), whole);
+}
+
+#[test]
+fn refusals_speak() {
+    let refusal = Run::start_erosion(&row("1"), &Element::new(3, vec![0; 9])).unwrap_err();
+    assert_eq!(refusal.number(), 6);
+    assert_eq!(refusal.to_string(), "refused 6: the element's centre is 0");
+}

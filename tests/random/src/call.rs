@@ -1,0 +1,227 @@
+//! One call of the library with everything that is lent to it.
+
+/// The functions of the boundary.
+#[derive(Clone, Copy, Debug, PartialEq, Eq)]
+pub enum Name {
+    StartErosion,
+    StartDilation,
+    Continue,
+    Collect,
+    Threshold,
+    Open,
+    Close,
+    OpeningLevels,
+    ClosingLevels,
+    Reflect,
+    ReadPbm,
+    WritePbm,
+    WritePgm,
+}
+
+/// The slices a call may lend.
+#[derive(Clone, Copy, Debug, PartialEq, Eq)]
+pub enum Field {
+    Sheet,
+    Cells,
+    File,
+    Record,
+    Levels,
+    WorkA,
+    WorkB,
+    BytesOut,
+    LevelsOut,
+    WordsOut,
+}
+
+impl Name {
+    pub const ALL: [Name; 13] = [
+        Name::StartErosion,
+        Name::StartDilation,
+        Name::Continue,
+        Name::Collect,
+        Name::Threshold,
+        Name::Open,
+        Name::Close,
+        Name::OpeningLevels,
+        Name::ClosingLevels,
+        Name::Reflect,
+        Name::ReadPbm,
+        Name::WritePbm,
+        Name::WritePgm,
+    ];
+
+    pub fn function(self) -> &'static str {
+        match self {
+            Name::StartErosion => "wt_start_erosion",
+            Name::StartDilation => "wt_start_dilation",
+            Name::Continue => "wt_continue",
+            Name::Collect => "wt_collect",
+            Name::Threshold => "wt_threshold",
+            Name::Open => "wt_open",
+            Name::Close => "wt_close",
+            Name::OpeningLevels => "wt_opening_levels",
+            Name::ClosingLevels => "wt_closing_levels",
+            Name::Reflect => "wt_reflect",
+            Name::ReadPbm => "wt_read_pbm",
+            Name::WritePbm => "wt_write_pbm",
+            Name::WritePgm => "wt_write_pgm",
+        }
+    }
+
+    /// The refusals of the call, in the order they are judged. At the C boundary an answer slice of another length
+    /// than stated gives 11 at 11's place, so 11 stands in every list.
+    pub fn refusals(self) -> &'static [u32] {
+        match self {
+            Name::StartErosion => &[2, 3, 4, 5, 6, 7, 10, 11],
+            Name::StartDilation => &[2, 3, 4, 5, 6, 7, 8, 9, 10, 11],
+            Name::Continue => &[1, 10, 11, 12],
+            Name::Collect => &[1, 10, 11, 13],
+            Name::Threshold => &[1, 8, 10, 11, 13],
+            Name::Open => &[2, 3, 4, 5, 6, 7, 8, 10, 11],
+            Name::OpeningLevels => &[2, 3, 4, 5, 6, 7, 10, 11],
+            Name::Close | Name::ClosingLevels => &[2, 3, 4, 5, 6, 7, 8, 9, 10, 11],
+            Name::Reflect => &[4, 5, 6, 7, 11],
+            Name::ReadPbm => &[21, 22, 2, 23, 24, 11],
+            Name::WritePbm => &[2, 3, 11],
+            Name::WritePgm => &[1, 8, 10, 11, 13],
+        }
+    }
+
+    /// The slices the call lends.
+    pub fn fields(self) -> &'static [Field] {
+        use Field::{
+            BytesOut, Cells, File, Levels, LevelsOut, Record, Sheet, WordsOut, WorkA, WorkB,
+        };
+        match self {
+            Name::StartErosion | Name::StartDilation => &[Sheet, Cells, Levels, WordsOut],
+            Name::Continue => &[Record, Levels, WordsOut],
+            Name::Collect => &[Record, Levels, LevelsOut],
+            Name::Threshold => &[Record, Levels, BytesOut],
+            Name::Open | Name::Close => &[Sheet, Cells, WorkA, WorkB, BytesOut],
+            Name::OpeningLevels | Name::ClosingLevels => &[Sheet, Cells, WorkA, WorkB, LevelsOut],
+            Name::Reflect => &[Cells, BytesOut],
+            Name::ReadPbm => &[File, BytesOut, WordsOut],
+            Name::WritePbm => &[Sheet, BytesOut, WordsOut],
+            Name::WritePgm => &[Record, Levels, BytesOut, WordsOut],
+        }
+    }
+
+    pub fn takes_frame(self) -> bool {
+        self.fields().contains(&Field::Sheet)
+    }
+
+    pub fn takes_element(self) -> bool {
+        self.fields().contains(&Field::Cells)
+    }
+
+    pub fn takes_record(self) -> bool {
+        self.fields().contains(&Field::Record)
+    }
+
+    /// Whether the call has a number of its own, kept in `Call::number`.
+    pub fn takes_number(self) -> bool {
+        matches!(
+            self,
+            Name::StartDilation
+                | Name::Continue
+                | Name::Threshold
+                | Name::Open
+                | Name::Close
+                | Name::ClosingLevels
+        )
+    }
+
+    /// Whether the call works on a canvas that its number, as a cap, decides.
+    pub fn takes_cap(self) -> bool {
+        matches!(
+            self,
+            Name::StartDilation | Name::Close | Name::ClosingLevels
+        )
+    }
+}
+
+/// A call. Fields that the function doesn't take are empty or 0. After the call the same struct holds what the lent
+/// slices have become, so two outcomes are compared field by field.
+#[derive(Clone, Debug, PartialEq, Eq)]
+pub struct Call {
+    pub name: Name,
+    pub width: u64,
+    pub height: u64,
+    pub side: u64,
+    /// The cap, the size or the allowance.
+    pub number: u64,
+    pub sheet: Vec<u8>,
+    pub cells: Vec<u8>,
+    pub file: Vec<u8>,
+    /// A record that is lent; the one that a start answers is `words_out`.
+    pub record: Vec<u64>,
+    pub levels: Vec<u16>,
+    pub work_a: Vec<u16>,
+    pub work_b: Vec<u16>,
+    pub bytes_out: Vec<u8>,
+    pub levels_out: Vec<u16>,
+    /// A start's record, `done`, `frame` or `length`.
+    pub words_out: Vec<u64>,
+}
+
+impl Call {
+    pub fn new(name: Name) -> Call {
+        Call {
+            name,
+            width: 0,
+            height: 0,
+            side: 0,
+            number: 0,
+            sheet: Vec::new(),
+            cells: Vec::new(),
+            file: Vec::new(),
+            record: Vec::new(),
+            levels: Vec::new(),
+            work_a: Vec::new(),
+            work_b: Vec::new(),
+            bytes_out: Vec::new(),
+            levels_out: Vec::new(),
+            words_out: Vec::new(),
+        }
+    }
+
+    pub fn length(&self, field: Field) -> usize {
+        match field {
+            Field::Sheet => self.sheet.len(),
+            Field::Cells => self.cells.len(),
+            Field::File => self.file.len(),
+            Field::Record => self.record.len(),
+            Field::Levels => self.levels.len(),
+            Field::WorkA => self.work_a.len(),
+            Field::WorkB => self.work_b.len(),
+            Field::BytesOut => self.bytes_out.len(),
+            Field::LevelsOut => self.levels_out.len(),
+            Field::WordsOut => self.words_out.len(),
+        }
+    }
+
+    /// Cuts a slice, or lengthens it by values that differ from one another.
+    pub fn set_length(&mut self, field: Field, length: usize) {
+        fn resize<T>(slice: &mut Vec<T>, length: usize, value: impl Fn(usize) -> T) {
+            slice.truncate(length);
+            for index in slice.len()..length {
+                slice.push(value(index));
+            }
+        }
+        let byte = |index: usize| u8::try_from(index * 37 % 251).unwrap_or(0);
+        let level = |index: usize| u16::try_from(index * 7919 % 65521).unwrap_or(0);
+        let word = |index: usize| index as u64 * 0x9E37_79B9 + 5;
+        match field {
+            Field::Sheet => resize(&mut self.sheet, length, byte),
+            Field::Cells => resize(&mut self.cells, length, |_| 1),
+            Field::File => resize(&mut self.file, length, byte),
+            Field::Record => resize(&mut self.record, length, |_| 0),
+            Field::Levels => resize(&mut self.levels, length, level),
+            Field::WorkA => resize(&mut self.work_a, length, level),
+            Field::WorkB => resize(&mut self.work_b, length, level),
+            Field::BytesOut => resize(&mut self.bytes_out, length, byte),
+            Field::LevelsOut => resize(&mut self.levels_out, length, level),
+            Field::WordsOut => resize(&mut self.words_out, length, word),
+        }
+    }
+}

@@ -1,0 +1,326 @@
+//! The small sheets that document 01 works by hand, and the largest sheets accepted, with answers written out here.
+
+use crate::call::{Call, Field, Name};
+use crate::raw::perform;
+use crate::report::Tally;
+
+/// The origin with its right neighbour.
+const T: [u8; 9] = [0, 0, 0, 0, 1, 1, 0, 0, 0];
+const CROSS: [u8; 9] = [0, 1, 0, 1, 1, 1, 0, 1, 0];
+const BOX: [u8; 9] = [1; 9];
+
+/// A sheet of rows drawn with `1` and `0`.
+struct Drawn {
+    width: u64,
+    height: u64,
+    bytes: Vec<u8>,
+}
+
+fn drawn(rows: &[&str]) -> Drawn {
+    let bytes = rows
+        .iter()
+        .flat_map(|row| row.as_bytes().chunks(8))
+        .map(|chunk| {
+            chunk
+                .iter()
+                .enumerate()
+                .map(|(place, pixel)| (pixel - b'0') << (7 - place))
+                .sum()
+        })
+        .collect();
+    Drawn {
+        width: rows[0].len() as u64,
+        height: rows.len() as u64,
+        bytes,
+    }
+}
+
+fn full(width: u64, height: u64) -> Drawn {
+    let count = usize::try_from(width.div_ceil(8) * height).expect("a sheet fits the memory");
+    Drawn {
+        width,
+        height,
+        bytes: vec![255; count],
+    }
+}
+
+fn count(number: u64) -> usize {
+    usize::try_from(number).expect("a sheet fits the memory")
+}
+
+/// Performs a call with no damage beside its slices, or number 99.
+fn number_and_after(call: &Call) -> (u32, Call) {
+    perform(call).unwrap_or_else(|_| (99, call.clone()))
+}
+
+fn given(name: Name, sheet: &Drawn, cells: &[u8], number: u64) -> Call {
+    let mut call = Call::new(name);
+    call.width = sheet.width;
+    call.height = sheet.height;
+    call.sheet = sheet.bytes.clone();
+    call.side = 3;
+    call.cells = cells.to_vec();
+    call.number = number;
+    let margin = if name.takes_cap() { number } else { 0 };
+    let area = count((sheet.width + 2 * margin) * (sheet.height + 2 * margin));
+    let frame = count(sheet.width * sheet.height);
+    for (field, length) in [
+        (Field::Levels, area),
+        (Field::WorkA, area),
+        (Field::WorkB, area),
+        (Field::BytesOut, sheet.bytes.len()),
+        (Field::LevelsOut, frame),
+        (Field::WordsOut, 55),
+    ] {
+        if name.fields().contains(&field) {
+            call.set_length(field, length);
+        }
+    }
+    call
+}
+
+fn on_run(name: Name, record: &[u64], levels: &[u16], number: u64, answer: (Field, usize)) -> Call {
+    let mut call = Call::new(name);
+    call.record = record.to_vec();
+    call.levels = levels.to_vec();
+    call.number = number;
+    call.set_length(answer.0, answer.1);
+    call
+}
+
+/// The record and the levels after a start and so many rows.
+fn worked(start: &Call, rows: u64) -> (Vec<u64>, Vec<u16>) {
+    let (number, started) = number_and_after(start);
+    if number != 0 {
+        return (Vec::new(), Vec::new());
+    }
+    let slice = on_run(
+        Name::Continue,
+        &started.words_out,
+        &started.levels,
+        rows,
+        (Field::WordsOut, 1),
+    );
+    let (_, after) = number_and_after(&slice);
+    (after.record, after.levels)
+}
+
+/// The collected levels of a whole run; empty where something was refused.
+fn collected(start: &Call) -> Vec<u16> {
+    let (record, levels) = worked(start, 8192);
+    let frame = count(start.width * start.height);
+    let call = on_run(
+        Name::Collect,
+        &record,
+        &levels,
+        0,
+        (Field::LevelsOut, frame),
+    );
+    let (number, after) = number_and_after(&call);
+    if number == 0 {
+        after.levels_out
+    } else {
+        Vec::new()
+    }
+}
+
+fn erosion(sheet: &Drawn, cells: &[u8]) -> Vec<u16> {
+    collected(&given(Name::StartErosion, sheet, cells, 0))
+}
+
+fn dilation(sheet: &Drawn, cells: &[u8], cap: u64) -> Vec<u16> {
+    collected(&given(Name::StartDilation, sheet, cells, cap))
+}
+
+fn threshold(sheet: &Drawn, cells: &[u8], size: u64) -> Vec<u8> {
+    let (record, levels) = worked(&given(Name::StartErosion, sheet, cells, 0), 8192);
+    let answer = (Field::BytesOut, sheet.bytes.len());
+    number_and_after(&on_run(Name::Threshold, &record, &levels, size, answer))
+        .1
+        .bytes_out
+}
+
+fn levels_of(name: Name, sheet: &Drawn, cells: &[u8], cap: u64) -> Vec<u16> {
+    number_and_after(&given(name, sheet, cells, cap))
+        .1
+        .levels_out
+}
+
+/// Both transforms of an opening and a closing, and both runs, with the cap 1.
+fn four_transforms(sheet: &Drawn, cells: &[u8]) -> [Vec<u16>; 4] {
+    [
+        erosion(sheet, cells),
+        dilation(sheet, cells, 1),
+        levels_of(Name::OpeningLevels, sheet, cells, 0),
+        levels_of(Name::ClosingLevels, sheet, cells, 1),
+    ]
+}
+
+fn case_1() -> bool {
+    let sheet = full(3, 3);
+    erosion(&sheet, &CROSS) == [1, 1, 1, 1, 2, 1, 1, 1, 1]
+        && threshold(&sheet, &CROSS, 1) == [0, 0x40, 0]
+        && threshold(&sheet, &CROSS, 2) == [0, 0, 0]
+}
+
+fn case_2() -> bool {
+    let start = given(Name::StartErosion, &full(5, 1), &T, 0);
+    let after_one = worked(&start, 1).1;
+    let after_two = worked(&start, 2).1;
+    after_one == [65535; 5] && after_two == [5, 4, 3, 2, 1]
+}
+
+fn case_3() -> bool {
+    let mut call = Call::new(Name::Reflect);
+    (call.side, call.cells) = (3, T.to_vec());
+    call.set_length(Field::BytesOut, 9);
+    let reflected = number_and_after(&call).1.bytes_out;
+    erosion(&full(5, 1), &reflected) == [1, 2, 3, 4, 5]
+}
+
+fn case_4() -> bool {
+    let sheet = drawn(&["00100"]);
+    dilation(&sheet, &T, 2) == [0, 0, 1, 2, 3] && dilation(&sheet, &T, 1) == [0, 0, 1, 2, 0]
+}
+
+fn case_5() -> bool {
+    let sheet = drawn(&["1", "0"]);
+    let element = [0, 0, 0, 1, 1, 0, 0, 0, 1];
+    dilation(&sheet, &element, 2) == [1, 3] && dilation(&sheet, &element, 1) == [1, 0]
+}
+
+fn case_6() -> bool {
+    let sheet = drawn(&["10111"]);
+    let (number, opened) = number_and_after(&given(Name::Open, &sheet, &T, 1));
+    erosion(&sheet, &T) == [1, 0, 3, 2, 1]
+        && levels_of(Name::OpeningLevels, &sheet, &T, 0) == [1, 0, 3, 3, 3]
+        && number == 0
+        && opened.bytes_out == drawn(&["00111"]).bytes
+}
+
+fn case_7() -> bool {
+    let sheet = drawn(&["1001"]);
+    levels_of(Name::ClosingLevels, &sheet, &T, 2) == [1, 3, 3, 1]
+        && levels_of(Name::ClosingLevels, &sheet, &T, 1) == [1, 0, 0, 1]
+}
+
+fn case_8() -> bool {
+    let empty = drawn(&["000", "000", "000"]);
+    let one = drawn(&["1"]);
+    let nothing = vec![0; 9];
+    four_transforms(&empty, &CROSS) == [nothing.clone(), nothing.clone(), nothing.clone(), nothing]
+        && erosion(&one, &CROSS) == [1]
+        && dilation(&one, &CROSS, 1) == [1]
+}
+
+fn case_9() -> bool {
+    let number = |name, sheet: &Drawn, cap| number_and_after(&given(name, sheet, &CROSS, cap)).0;
+    let (number_before, started) =
+        number_and_after(&given(Name::StartErosion, &full(3, 3), &CROSS, 0));
+    let allowed = |allowance| {
+        let (record, levels) = (&started.words_out, &started.levels);
+        let answer = (Field::WordsOut, 1);
+        number_and_after(&on_run(Name::Continue, record, levels, allowance, answer)).0
+    };
+    number(Name::StartErosion, &full(4096, 1), 0) == 0
+        && number(Name::StartErosion, &full(1, 4096), 0) == 0
+        && number(Name::StartErosion, &full(4097, 1), 0) == 2
+        && number(Name::StartErosion, &full(1, 4097), 0) == 2
+        && number_before == 0
+        && allowed(8192) == 0
+        && allowed(8193) == 12
+        && number(Name::StartDilation, &full(4094, 1), 1) == 0
+        && number(Name::StartDilation, &full(4095, 1), 1) == 9
+}
+
+fn case_10() -> bool {
+    // Nine columns; the same pixels with the seven padding bits clear and set.
+    let clear = drawn(&["101101111", "111111111", "001111011"]);
+    let mut set = drawn(&["101101111", "111111111", "001111011"]);
+    for row in 0..3 {
+        set.bytes[2 * row + 1] |= 0x7F;
+    }
+    let sheets = |sheet: &Drawn| {
+        let opened = number_and_after(&given(Name::Open, sheet, &CROSS, 1))
+            .1
+            .bytes_out;
+        let closed = number_and_after(&given(Name::Close, sheet, &CROSS, 1))
+            .1
+            .bytes_out;
+        (opened, closed, threshold(sheet, &CROSS, 1))
+    };
+    clear.bytes.len() == 6
+        && four_transforms(&clear, &CROSS) == four_transforms(&set, &CROSS)
+        && sheets(&clear) == sheets(&set)
+}
+
+/// The largest sheet, full, with the box: the level is the distance to the nearest border.
+fn largest_erosion() -> bool {
+    let side: u64 = 4096;
+    let levels = erosion(&full(side, side), &BOX);
+    levels.len() == count(side * side)
+        && levels.iter().enumerate().all(|(place, level)| {
+            let (row, column) = (place as u64 / side, place as u64 % side);
+            let nearest = row.min(column).min(side - 1 - row).min(side - 1 - column) + 1;
+            u64::from(*level) == nearest
+        })
+}
+
+/// The largest canvas: a frame of 2 by 2 with the cap 2,047. Levels are right on all of the canvas.
+fn largest_dilation() -> bool {
+    let start = given(Name::StartDilation, &full(2, 2), &BOX, 2047);
+    let (_, levels) = worked(&start, 8192);
+    let side: u64 = 4096;
+    // The frame lies at 2,047 and 2,048.
+    let distance = |place: u64| {
+        if place < 2047 {
+            2047 - place
+        } else {
+            place.saturating_sub(2048)
+        }
+    };
+    levels.len() == count(side * side)
+        && levels.iter().enumerate().all(|(place, level)| {
+            let (row, column) = (place as u64 / side, place as u64 % side);
+            u64::from(*level) == distance(row).max(distance(column)) + 1
+        })
+}
+
+/// A full row of 4,096 with its right neighbour: every opening up to size 4,095 holds all of it.
+fn longest_opening() -> bool {
+    let sheet = full(4096, 1);
+    let row = levels_of(Name::OpeningLevels, &sheet, &T, 0);
+    let opened = |size| {
+        number_and_after(&given(Name::Open, &sheet, &T, size))
+            .1
+            .bytes_out
+    };
+    row == vec![4096; 4096] && opened(4095) == vec![255; 512] && opened(4096) == vec![0; 512]
+}
+
+type Case = (&'static str, fn() -> bool);
+
+const CASES: [Case; 13] = [
+    ("case 1: full 3 by 3, cross", case_1),
+    ("case 2: full 5 by 1, right neighbour", case_2),
+    ("case 3: the same, reflected", case_3),
+    ("case 4: dilation to the right, capped", case_4),
+    ("case 5: dilation by way of beyond the frame", case_5),
+    ("case 6: opening of a row", case_6),
+    ("case 7: closing of a row", case_7),
+    ("case 8: empty sheet, and one point", case_8),
+    ("case 9: the ends of the ranges", case_9),
+    ("case 10: padding bits", case_10),
+    ("largest frame: erosion of 4,096 by 4,096", largest_erosion),
+    ("largest canvas: dilation with cap 2,047", largest_dilation),
+    ("longest opening: sizes up to 4,096", longest_opening),
+];
+
+pub fn check_cases(tally: &mut Tally) {
+    for (name, holds) in CASES {
+        tally.tried(name);
+        if !holds() && tally.differs(name) {
+            println!("DIFFERENCE in {name}: see src/cases.rs");
+        }
+    }
+}

@@ -1,0 +1,325 @@
+//! Makes random calls that are accepted.
+
+use crate::call::{Call, Field, Name};
+use crate::dice::Dice;
+use crate::rules::{due_length, pack, Record};
+
+/// How large the sheets may be.
+#[derive(Clone, Copy, PartialEq, Eq)]
+pub enum Scale {
+    /// Frames of 1 to 12.
+    Small,
+    /// Frames of up to 40, and wide ones of up to 300 by 3.
+    Large,
+}
+
+/// A random accepted call of the function. What its answer slices hold beforehand is random too.
+pub fn sound_call(dice: &mut Dice, name: Name, scale: Scale) -> Call {
+    let mut call = Call::new(name);
+    if name.takes_frame() {
+        (call.width, call.height) = frame(dice, scale);
+        call.sheet = sheet(dice, call.width, call.height);
+    }
+    if name.takes_element() {
+        (call.side, call.cells) = element(dice);
+    }
+    if name.takes_record() {
+        record(dice, &mut call, scale);
+    }
+    if name == Name::ReadPbm {
+        call.file = file(dice, scale);
+    }
+    if name.takes_cap() {
+        call.number = cap(dice, call.side, scale);
+    } else if name == Name::Open {
+        call.number = opening_size(dice);
+    }
+    lend_due_lengths(&mut call);
+    if name.takes_record() {
+        levels_of_run(dice, &mut call);
+    }
+    let is_file_call = matches!(name, Name::ReadPbm | Name::WritePbm | Name::WritePgm);
+    if is_file_call {
+        // The levels are known only now, and with them the length of the text; a file's room may be longer.
+        let due = due_length(&call, Field::BytesOut);
+        let due = usize::try_from(due).expect("sound calls are small");
+        let spare = dice.pick(&[0, 0, 1, 7, 100]);
+        call.set_length(Field::BytesOut, due + spare);
+    }
+    scramble(dice, &mut call);
+    call
+}
+
+/// Gives the levels, the work buffers and the answer slices of a call the lengths that its other arguments ask for.
+pub fn lend_due_lengths(call: &mut Call) {
+    for field in call.name.fields() {
+        if !matches!(
+            field,
+            Field::Sheet | Field::Cells | Field::Record | Field::File
+        ) {
+            let due = usize::try_from(due_length(call, *field)).expect("sound calls are small");
+            call.set_length(*field, due);
+        }
+    }
+}
+
+fn frame(dice: &mut Dice, scale: Scale) -> (u64, u64) {
+    let most = if scale == Scale::Large { 40 } else { 12 };
+    match dice.below(8) {
+        0 => (1, dice.between(1, most)),
+        1 => (dice.between(1, most), 1),
+        // Widths around whole bytes.
+        2 => (dice.between(7, 9), dice.between(1, most)),
+        // Rows of several words, whatever the size of a word.
+        3 if scale == Scale::Large => (dice.between(41, 300), dice.between(1, 3)),
+        _ => (dice.between(1, most), dice.between(1, most)),
+    }
+}
+
+/// A packed sheet: random points, rectangles, empty or full. Its padding bits are random.
+pub fn sheet(dice: &mut Dice, width: u64, height: u64) -> Vec<u8> {
+    let count = usize::try_from(width * height).expect("frames are small");
+    let flags: Vec<bool> = match dice.below(10) {
+        0 => vec![false; count],
+        1 => vec![true; count],
+        2 | 3 => rectangles(dice, width, height),
+        4 => {
+            // Nearly full, so that levels grow.
+            let mut flags = vec![true; count];
+            for _ in 0..dice.between(1, 3) {
+                flags[dice.index(count)] = false;
+            }
+            flags
+        }
+        5 => {
+            let mut flags = vec![false; count];
+            for _ in 0..dice.between(1, 3) {
+                flags[dice.index(count)] = true;
+            }
+            flags
+        }
+        _ => {
+            let share = dice.pick(&[10, 30, 50, 70, 85, 95]);
+            (0..count).map(|_| dice.percent(share)).collect()
+        }
+    };
+    let mut bytes = pack(width, &flags);
+    let row_bytes = usize::try_from(width.div_ceil(8)).expect("frames are small");
+    let padding = u8::try_from((1_u32 << ((8 - width % 8) % 8)) - 1).expect("below 128");
+    for row in bytes.chunks_mut(row_bytes) {
+        row[row_bytes - 1] |= dice.byte() & padding;
+    }
+    bytes
+}
+
+fn rectangles(dice: &mut Dice, width: u64, height: u64) -> Vec<bool> {
+    let mut flags = vec![false; usize::try_from(width * height).expect("frames are small")];
+    for _ in 0..dice.between(1, 4) {
+        let (left, top) = (dice.below(width), dice.below(height));
+        let right = dice.between(left, width - 1);
+        let bottom = dice.between(top, height - 1);
+        for row in top..=bottom {
+            for column in left..=right {
+                flags[usize::try_from(row * width + column).expect("in the frame")] = true;
+            }
+        }
+    }
+    flags
+}
+
+/// An accepted element of side 3, 5 or 7.
+pub fn element(dice: &mut Dice) -> (u64, Vec<u8>) {
+    let side = dice.pick(&[3, 3, 5, 7]);
+    let count = usize::try_from(side * side).expect("49 at most");
+    let centre = count / 2;
+    let reach = (side - 1) / 2;
+    // The points used lie within this reach, so that outer rings are sometimes empty.
+    let used_reach = if dice.percent(25) {
+        dice.between(1, reach)
+    } else {
+        reach
+    };
+    let within = |place: usize| {
+        let (row, column) = (place as u64 / side, place as u64 % side);
+        row.abs_diff(reach) <= used_reach && column.abs_diff(reach) <= used_reach
+    };
+    let mut cells = vec![0; count];
+    match dice.below(6) {
+        0 => {
+            for (place, cell) in cells.iter_mut().enumerate() {
+                *cell = u8::from(within(place));
+            }
+        }
+        1 => {
+            // A cross.
+            for (place, cell) in cells.iter_mut().enumerate() {
+                let (row, column) = (place as u64 / side, place as u64 % side);
+                *cell = u8::from(within(place) && (row == reach || column == reach));
+            }
+        }
+        2 => {} // One point beside the origin.
+        _ => {
+            let share = dice.pick(&[5, 15, 40, 80]);
+            for (place, cell) in cells.iter_mut().enumerate() {
+                *cell = u8::from(within(place) && dice.percent(share));
+            }
+        }
+    }
+    cells[centre] = 1;
+    while cells.iter().filter(|cell| **cell == 1).count() == 1 {
+        let place = dice.index(count);
+        if within(place) {
+            cells[place] = 1;
+        }
+    }
+    (side, cells)
+}
+
+/// A cap that keeps the definitions affordable.
+fn cap(dice: &mut Dice, side: u64, scale: Scale) -> u64 {
+    let reach = (side - 1) / 2;
+    let most = match scale {
+        Scale::Small => 9 / reach,
+        Scale::Large => 6 / reach,
+    };
+    if scale == Scale::Small && dice.percent(3) {
+        return dice.between(0, 24 / reach);
+    }
+    dice.between(0, most)
+}
+
+fn opening_size(dice: &mut Dice) -> u64 {
+    match dice.below(10) {
+        0 => 0,
+        1 => dice.pick(&[4095, 4096]),
+        2 => dice.between(0, 4096),
+        _ => dice.between(0, 6),
+    }
+}
+
+/// A sound record, and the number that the call on it takes.
+fn record(dice: &mut Dice, call: &mut Call, scale: Scale) {
+    let (side, cells) = element(dice);
+    let dilation = dice.percent(50);
+    let (mut width, mut height) = frame(dice, scale);
+    let mut cap = if dilation { cap(dice, side, scale) } else { 0 };
+    if call.name == Name::WritePgm && dice.percent(30) {
+        // Numbers of up to four digits, and rows of many lines. No canvas is lent here, so this is cheap.
+        cap = if dilation {
+            dice.pick(&[8, 9, 98, 99, 300])
+        } else {
+            0
+        };
+        width = dice.pick(&[20, 35, 36, 99, 100, 101, 999, 1000, 1200]);
+        height = dice.between(1, 3);
+    }
+    let mut words = vec![if dilation { 2 } else { 1 }, width, height, cap, side, 0];
+    let mut rows = [[0; 7]; 7];
+    for (place, cell) in cells.iter().enumerate() {
+        let (row, column) = (place as u64 / side, place as u64 % side);
+        let corner = 3 - (side - 1) / 2;
+        let (row, column) = (corner + row, corner + column);
+        rows[usize::try_from(row).expect("below 7")][usize::try_from(column).expect("below 7")] =
+            u64::from(*cell);
+    }
+    words.extend(rows.iter().flatten());
+    call.record = words;
+    let record = Record::read(&call.record).expect("the record is sound");
+    match call.name {
+        Name::Continue => {
+            call.record[5] = dice.between(0, record.rows_due());
+            call.number = allowance(dice, record.rows_due());
+        }
+        Name::Threshold => {
+            call.record[5] = record.rows_due();
+            call.number = match dice.below(4) {
+                0 => dice.between(0, record.most_size()),
+                1 => record.most_size(),
+                _ => dice.between(0, record.most_size().min(5)),
+            };
+        }
+        _ => call.record[5] = record.rows_due(),
+    }
+}
+
+/// An accepted allowance: none, a few rows, about as many as there are, or the most.
+pub fn allowance(dice: &mut Dice, rows_due: u64) -> u64 {
+    match dice.below(6) {
+        0 => 0,
+        1 => 1,
+        2 => dice.between(0, 3),
+        3 => 8192,
+        _ => dice.between(0, rows_due + 2),
+    }
+}
+
+/// Levels that no start need have given, of every kind: any 16-bit numbers, small ones, and those at both ends.
+fn levels_of_run(dice: &mut Dice, call: &mut Call) {
+    let record = Record::read(&call.record).expect("the record is sound");
+    let kind = if call.name == Name::WritePgm {
+        4
+    } else {
+        dice.below(4)
+    };
+    let small = dice.between(1, 20);
+    let maximum = record.maximum();
+    for level in &mut call.levels {
+        *level = match kind {
+            0 => dice.level(),
+            1 => u16::try_from(dice.below(small)).unwrap_or(0),
+            2 => dice.pick(&[0, 1, 2, 65533, 65534, 65535]),
+            3 => dice.pick(&[0, 65535]),
+            _ => u16::try_from(if dice.percent(10) {
+                maximum
+            } else {
+                dice.between(0, maximum)
+            })
+            .expect("a maximum is at most 4,096"),
+        };
+    }
+}
+
+/// A sound raw PBM: any run of white bytes, leading zeros, padding bits as they come.
+fn file(dice: &mut Dice, scale: Scale) -> Vec<u8> {
+    let (width, height) = frame(dice, scale);
+    let mut file = b"P4".to_vec();
+    white(dice, &mut file);
+    digits(dice, &mut file, width);
+    white(dice, &mut file);
+    digits(dice, &mut file, height);
+    file.push(dice.pick(b" \t\r\n"));
+    file.extend(sheet(dice, width, height));
+    file
+}
+
+fn white(dice: &mut Dice, file: &mut Vec<u8>) {
+    for _ in 0..dice.pick(&[1, 1, 1, 2, 5]) {
+        file.push(dice.pick(b" \t\r\n"));
+    }
+}
+
+fn digits(dice: &mut Dice, file: &mut Vec<u8>, number: u64) {
+    for _ in 0..dice.pick(&[0, 0, 0, 1, 3, 30]) {
+        file.push(b'0');
+    }
+    file.extend(number.to_string().into_bytes());
+}
+
+/// Random contents for what the call is to overwrite.
+fn scramble(dice: &mut Dice, call: &mut Call) {
+    let is_start = matches!(call.name, Name::StartErosion | Name::StartDilation);
+    if is_start {
+        call.levels
+            .iter_mut()
+            .for_each(|level| *level = dice.level());
+    }
+    for buffer in [&mut call.work_a, &mut call.work_b, &mut call.levels_out] {
+        buffer.iter_mut().for_each(|level| *level = dice.level());
+    }
+    call.bytes_out
+        .iter_mut()
+        .for_each(|byte| *byte = dice.byte());
+    call.words_out
+        .iter_mut()
+        .for_each(|word| *word = dice.word());
+}
