@@ -1,5 +1,5 @@
 //! Links the verified library (see `rust/build.rs`), compiles the C scans, and compiles the shims over OpenCV and
-//! leptonica where these are installed; else stubs that say so.
+//! leptonica where these are installed; else files that say so.
 
 use std::env;
 use std::path::{Path, PathBuf};
@@ -34,9 +34,9 @@ fn main() {
             println!("cargo:rustc-link-lib={library}");
         }
     } else {
-        let stub = ["-DNOT_INSTALLED".to_string()];
+        let absent = ["-DNOT_INSTALLED".to_string()];
         assert!(
-            compile(&cxx, "opencv.cpp", "opencv_shim", &stub),
+            compile(&cxx, "opencv.cpp", "opencv_shim", &absent),
             "can't compile c/opencv.cpp"
         );
     }
@@ -45,9 +45,9 @@ fn main() {
     if compile(&c, "leptonica.c", "leptonica_shim", &leptonica_flags) {
         println!("cargo:rustc-link-lib=lept");
     } else {
-        let stub = ["-DNOT_INSTALLED".to_string()];
+        let absent = ["-DNOT_INSTALLED".to_string()];
         assert!(
-            compile(&c, "leptonica.c", "leptonica_shim", &stub),
+            compile(&c, "leptonica.c", "leptonica_shim", &absent),
             "can't compile c/leptonica.c"
         );
     }

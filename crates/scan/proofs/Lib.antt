@@ -7,6 +7,5 @@ pub mod Passes
 pub mod ScanLaws
 pub mod Windows
 pub mod Raster
-pub mod Soundness
 pub mod Erosion
 pub mod Dilation
