@@ -14,7 +14,7 @@ use borrow.Author.Tests.{eqb-true, eqb-false, ltb-false, ne-eqb}
 use Rattle.basics.specs.Refusals.{first}
 use Rattle.basics.proofs.Arithmetic.{entry-of, row-below, column-below}
 use Rattle.grid.specs.Points.{Point, at, origin}
-use Rattle.grid.specs.Figures.{element, reach}
+use Rattle.grid.specs.Figures.{reach}
 use Rattle.grid.proofs.PointLaws.{pos-inj}
 use Rattle.grid.proofs.FigureLaws.{centre-origin}
 use Rattle.element.specs.Elements.{byteAt, elementSet, isSide, anyAboveOne, countSet, elementRefusals}

@@ -10,9 +10,8 @@ use lib.ListN.{length, getD}
 use borrow.Author.Tests.{ltb-true, leb-true}
 use Rattle.basics.specs.Tables.{table, raster}
 use Rattle.basics.proofs.TableLaws.{getD-table, getD-raster, raster-is}
-use Rattle.grid.specs.Points.{at}
 use Rattle.grid.specs.Sets.{reflect, _≈_}
-use Rattle.grid.specs.Figures.{reach}
+use Rattle.grid.specs.Figures.{element, reach}
 use Rattle.grid.proofs.FigureLaws.{element-same, element-larger, element-smaller, element-reflect}
 use Rattle.element.specs.Elements.{byteAt, elementSet, isSide}
 use Rattle.element.specs.Cells.{cellAt, cellSet, sevenBySeven, isHeld, centredCell, centred, turned, flat, unflat}
@@ -99,3 +98,10 @@ reflected-twice side bytes l =
     sym (raster-is side side (λ row col. byteAt side (reflectedBytes side bytes) (side - 1 - row) (side - 1 - col)) 0 bytes l
     (λ row col a c. sym (reflected-at side bytes (side - 1 - row) (side - 1 - col) (omega arith) (omega arith)
     ∙ ap₂ (byteAt side bytes) (let q : side - 1 - (side - 1 - row) ≡ row = omega arith in q) (let q : side - 1 - (side - 1 - col) ≡ col = omega arith in q))))
+
+-- BYTES GIVEN CELL BY CELL MEAN THE ELEMENT THAT THE CELLS DRAW
+pub drawn-means : (side : ℕ) (cell : ℕ → ℕ → ℕ) → elementSet side (raster side side cell) ≈ element side cell
+drawn-means side cell = (
+  element-same side (byteAt side (raster side side cell)) cell (λ row col a b v. sym (getD-raster side side cell row col 0 a b) ∙ v),
+  element-same side cell (byteAt side (raster side side cell)) (λ row col a b v. getD-raster side side cell row col 0 a b ∙ v),
+)

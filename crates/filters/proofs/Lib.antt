@@ -4,6 +4,7 @@ pub mod BackLaws
 pub mod WayBack
 pub mod Sizes
 pub mod Uniqueness
+pub mod StarredFilters
 pub mod BackSteps
 pub mod FirstRuns
 pub mod Refusing

@@ -34,7 +34,7 @@ use Rattle.filters.proofs.Uniqueness.{packed-sheet}
 kept-sheet : (r : Record) (levels : List ℕ) (limit n : ℕ) (F : ℕ → PointSet) → HoldsBack r levels limit F → n ≤ limit → (out : List ℕ) → out ≡ keptSheet r (wayBack r levels n) n → IsSheet (r .width) (r .height) (F n) out
 unfolding keptSheet
 kept-sheet r levels limit n F holds l out e =
-    packed-sheet (r .width) (r .height) (F n) (λ row col. cond (held row col) 1 0) out e (λ row col. small (held row col))
+    packed-sheet (r .width) (r .height) (F n) (λ row col. cond (held row col) 1 0) out e (λ row col _ _. small (held row col))
     (λ row col a b. let i = holds n l row col a b in ((λ h. one (held row col) (i .0 h)), (λ h. i .1 (is (held row col) h))))
   where
     held : ℕ → ℕ → Bool

@@ -41,7 +41,7 @@ module _ (width height : ℕ) where
       (length-packed width height f) (λ row k a b. getD-raster (rowBytes width) height (λ row k. packedByte width (f row) k) row k 0 a b ∙ byte-same width k (f row) (g row) (λ col l. same row col a l))
 
   -- the sheet packed of a set's pixels
-  pub packed-sheet : (A : PointSet) (f : ℕ → ℕ → ℕ) (out : List ℕ) → out ≡ packed width height f → ((row col : ℕ) → f row col ≤ 1)
+  pub packed-sheet : (A : PointSet) (f : ℕ → ℕ → ℕ) (out : List ℕ) → out ≡ packed width height f → ((row col : ℕ) → row < height → col < width → f row col ≤ 1)
       → ((row col : ℕ) → row < height → col < width → A (at (pos row) (pos col)) ↔ (f row col ≡ 1)) → IsSheet width height A out
   packed-sheet A f out e small is = record {
     pixels = λ row col a b. let i = is row col a b in let p = own row col a b in ((λ h. i .1 (sym p ∙ h)), (λ h. p ∙ i .0 h));
@@ -49,9 +49,9 @@ module _ (width height : ℕ) where
   }
     where
       own : (row col : ℕ) → row < height → col < width → pixel width out row col ≡ f row col
-      own row col a b = ap (λ l. pixel width l row col) e ∙ pixel-packed width height f (λ i j _ _. small i j) row col a b
+      own row col a b = ap (λ l. pixel width l row col) e ∙ pixel-packed width height f small row col a b
 
-  sheet-one : (A : PointSet) (x y : List ℕ) → IsSheet width height A x → IsSheet width height A y → x ≡ y
+  pub sheet-one : (A : PointSet) (x y : List ℕ) → IsSheet width height A x → IsSheet width height A y → x ≡ y
   sheet-one A x y p q = p .padding ∙ packed-same (pixel width x) (pixel width y) same ∙ sym (q .padding)
     where
       same : (row col : ℕ) → row < height → col < width → pixel width x row col ≡ pixel width y row col
@@ -68,7 +68,7 @@ module _ (width height : ℕ) where
               go (no e) (yes d) = absurd (e (g d))
               go (no e) (no d) = omega arith
 
-  levels-one : (IsLevel : Point → ℕ → Type 0) → ((p : Point) (m n : ℕ) → IsLevel p m → IsLevel p n → m ≡ n) → (x y : List ℕ) → AreLevels width height IsLevel x → AreLevels width height IsLevel y → x ≡ y
+  pub levels-one : (IsLevel : Point → ℕ → Type 0) → ((p : Point) (m n : ℕ) → IsLevel p m → IsLevel p n → m ≡ n) → (x y : List ℕ) → AreLevels width height IsLevel x → AreLevels width height IsLevel y → x ≡ y
   levels-one IsLevel one x y p q =
       raster-is width height (λ i j. getD y (i * width + j) 0) 0 x (p .size) (λ i j a b. one (at (pos i) (pos j)) _ _ (p .levels i j a b) (q .levels i j a b))
       ∙ sym (raster-is width height (λ i j. getD y (i * width + j) 0) 0 y (q .size) (λ i j a b. refl))

@@ -1,2 +1,3 @@
 pub mod Filters
 pub mod Back
+pub mod StarredFilters

@@ -1,12 +1,12 @@
--- Elements drawn in squares: the same element in a larger square, and turned about.
+-- Sets drawn cell by cell: the same cells read in two ways; an element in a larger square, and turned about.
 -- A coordinate z of a point stands in the square at the place p with z + reach = p; moving and turning change that equation.
 use mathlib.Core.Path.{_≡_, sym, _∙_, ap, ap₂, subst}
 use Prim.Native.Nat.{ℕ, _+_, _-_, _≤_, _<_}
 use native.Mathlib.Omega.{arith}
 use lib.IntN.{ℤ, pos, negℤ, _+ℤ_, _-ℤ_, +ℤ-assoc, +ℤ-comm, +ℤ-idl, +ℤ-negℤ-cancel, negℤ-+ℤ, negℤ-negℤ}
-use Rattle.grid.specs.Points.{at, origin, neg}
+use Rattle.grid.specs.Points.{at, origin, _⊕_, neg}
 use Rattle.grid.specs.Sets.{reflect, _⊆_, _≈_}
-use Rattle.grid.specs.Figures.{element, reach}
+use Rattle.grid.specs.Figures.{figure, element, reach}
 use Rattle.grid.proofs.PointLaws.{neg-neg}
 
 pub place-further : (z : ℤ) (r m n p : ℕ) → r + m ≡ n → z +ℤ pos r ≡ pos p → z +ℤ pos n ≡ pos (p + m)
@@ -25,8 +25,11 @@ place-turned z r p q e h =
     ∙ +ℤ-negℤ-cancel (pos q) (pos p)
 
 -- the same cells, read in two ways
+pub figure-same : (width height : ℕ) (f g : ℕ → ℕ → ℕ) → ((row col : ℕ) → row < height → col < width → f row col ≡ 1 → g row col ≡ 1) → figure width height f ⊆ figure width height g
+figure-same width height f g h x (row, col, a, c, e, p) = (row, col, a, c, h row col a c e, p)
+
 pub element-same : (side : ℕ) (f g : ℕ → ℕ → ℕ) → ((row col : ℕ) → row < side → col < side → f row col ≡ 1 → g row col ≡ 1) → element side f ⊆ element side g
-element-same side f g h b (row, col, a, c, e, p) = (row, col, a, c, h row col a c e, p)
+element-same side f g h b = figure-same side side f g h (b ⊕ at (pos (reach side)) (pos (reach side)))
 
 -- one square centred in another: places move by m
 module _ (side big : ℕ) (f g : ℕ → ℕ → ℕ) (m : ℕ) (e : reach side + m ≡ reach big) (fits : m + side ≤ big) where

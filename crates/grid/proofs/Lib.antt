@@ -1,6 +1,7 @@
 pub mod PointLaws
 pub mod SetLaws
 pub mod LevelLaws
+pub mod SameSets
 pub mod FigureLaws
 pub mod ReachLaws
 pub mod Searches

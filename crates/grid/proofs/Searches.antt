@@ -55,6 +55,16 @@ unfoldable pub same-dec : {P Q : Type 0} → (P → Q) → (Q → P) → Dec P �
 same-dec f g (yes p) = yes (f p)
 same-dec f g (no n) = no (λ q. n (g q))
 
+-- what is decided with a yes holds
+unfoldable pub Yes : {P : Type 0} → Dec P → Type 0
+Yes (yes p) = Unit {0}
+Yes (no n) = ⊥
+
+pub by-test : {P : Type 0} (d : Dec P) → Yes d → P
+unfolding Yes
+by-test (yes p) t = p
+by-test (no n) t = absurd t
+
 abbrev pub Decided : PointSet → Type 0
 Decided A = (x : Point) → Dec (A x)
 

@@ -11,9 +11,9 @@ use Rattle.grid.specs.Points.{Point, at, origin, _⊕_}
 use Rattle.grid.specs.Sets.{PointSet, eroded, dilated, opened, closed}
 use Rattle.grid.specs.Levels.{IsLast, IsFirst}
 use Rattle.grid.specs.Figures.{reach}
-use Rattle.grid.specs.Starred.{drawn, Question, erosionLevels, openingLevels, dilationLevels, closingLevels, erodedBy, openedBy, IsPixel, Answers, Case, foreground, shapeOf, AllHold, table, hook, clipped, ClippingMisses}
+use Rattle.grid.specs.Starred.{drawn, Question, erosionLevels, openingLevels, dilationLevels, closingLevels, erodedBy, openedBy, IsPixel, IsAnswer, Case, foreground, shapeOf, AllHold, table, hook, clipped, ClippingMisses}
 use Rattle.grid.proofs.SetLaws.{eroded-shrinks, dilated-grows, opened-shrinks, closed-grows}
-use Rattle.grid.proofs.Searches.{Decided, Searched, all-below, any-below, not-dec, both-dec, implies-dec, same-dec, origin-searched, dilate-searched, fold-searched, moved-searched, erode-decided, dilate-decided, eroded-decided, dilated-decided, opened-decided, closed-decided, frame-decided, figure-decided, figure-searched, element-searched}
+use Rattle.grid.proofs.Searches.{Yes, by-test, Decided, Searched, all-below, any-below, not-dec, both-dec, implies-dec, same-dec, origin-searched, dilate-searched, fold-searched, moved-searched, erode-decided, dilate-decided, eroded-decided, dilated-decided, opened-decided, closed-decided, frame-decided, figure-decided, figure-searched, element-searched}
 
 -- the two sizes that show a level
 LastAt : (ℕ → Type 0) → ℕ → Type 0
@@ -84,7 +84,7 @@ pixel-dec P (no n) v = same-dec (λ e. inr (e, n)) none (ℕ-discrete v 0)
     none (inr h) = h .0
 
 module _ (A K : PointSet) (x : Point) (v : ℕ) where
-  answered : (q : Question) → K origin → Tested q A K x v → Answers q A K x v
+  answered : (q : Question) → K origin → Tested q A K x v → IsAnswer q A K x v
   unfolding Tested
   answered erosionLevels o t = last-at (λ n. eroded A K n x) (λ i j l. eroded-shrinks A K o i j l x) v t
   answered openingLevels o t = last-at (λ n. opened A K n x) (λ i j l. opened-shrinks A K i j l x) v t
@@ -128,15 +128,6 @@ all-dec : (cases : List Case) → Dec (AllTested cases)
 unfolding AllTested
 all-dec [] = yes tt
 all-dec (c ∷ cases) = both-dec (case-dec c) (all-dec cases)
-
-Yes : {P : Type 0} → Dec P → Type 0
-Yes (yes p) = Unit {0}
-Yes (no n) = ⊥
-
-by-test : {P : Type 0} (d : Dec P) → Yes d → P
-unfolding Yes
-by-test (yes p) t = p
-by-test (no n) t = absurd t
 
 -- what the tests compute with
 table-tested : AllTested table

@@ -2,7 +2,7 @@
 use mathlib.Core.Path.{_≡_}
 use Prim.Native.Nat.{ℕ, _-_, _/_, _<_}
 use lib.IntN.{pos}
-use Rattle.grid.specs.Points.{Point, at, _⊕_}
+use Rattle.grid.specs.Points.{at, _⊕_}
 use Rattle.grid.specs.Sets.{PointSet}
 
 -- the frame, its upper left point at the origin

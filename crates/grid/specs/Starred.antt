@@ -28,13 +28,13 @@ abbrev pub IsPixel : Type 0 → ℕ → Type 0
 IsPixel held v = ((v ≡ 1) × held) ⊎ ((v ≡ 0) × ¬ held)
 
 -- v is the right answer at x
-abbrev pub Answers : Question → PointSet → PointSet → Point → ℕ → Type 0
-Answers erosionLevels A K x v = IsErosionLevel A K x v
-Answers openingLevels A K x v = IsOpeningLevel A K x v
-Answers (dilationLevels R) A K x v = IsDilationLevel R A K x v
-Answers (closingLevels R) A K x v = IsClosingLevel R A K x v
-Answers (erodedBy n) A K x v = IsPixel (eroded A K n x) v
-Answers (openedBy n) A K x v = IsPixel (opened A K n x) v
+abbrev pub IsAnswer : Question → PointSet → PointSet → Point → ℕ → Type 0
+IsAnswer erosionLevels A K x v = IsErosionLevel A K x v
+IsAnswer openingLevels A K x v = IsOpeningLevel A K x v
+IsAnswer (dilationLevels R) A K x v = IsDilationLevel R A K x v
+IsAnswer (closingLevels R) A K x v = IsClosingLevel R A K x v
+IsAnswer (erodedBy n) A K x v = IsPixel (eroded A K n x) v
+IsAnswer (openedBy n) A K x v = IsPixel (opened A K n x) v
 
 pub record Case : Type 0 where
   pub width : ℕ
@@ -53,7 +53,7 @@ shapeOf c = element 3 (drawn (c .shape))
 
 -- the expected answers are right at every point of the frame
 abbrev pub Holds : Case → Type 0
-Holds c = (row : ℕ) → row < c .height → (col : ℕ) → col < c .width → Answers (c .question) (foreground c) (shapeOf c) (at (pos row) (pos col)) (drawn (c .expected) row col)
+Holds c = (row : ℕ) → row < c .height → (col : ℕ) → col < c .width → IsAnswer (c .question) (foreground c) (shapeOf c) (at (pos row) (pos col)) (drawn (c .expected) row col)
 
 abbrev pub AllHold : List Case → Type 0
 AllHold [] = Unit {0}

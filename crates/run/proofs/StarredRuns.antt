@@ -1,51 +1,49 @@
 -- The runs of the starred cases give the table's answers, by one computed test over the whole table.
-use Prim.Native.Nat.{ℕ}
-use mathlib.Core.Path.{_≡_, refl, ap₂}
-use mathlib.Core.Bool.{Bool, true, false, _&&_}
+use Prim.Native.Nat.{ℕ, suc}
+use native.Mathlib.Decide.{ℕ-discrete}
+use native.Mathlib.Omega.{arith}
+use mathlib.Core.Path.{_≡_, refl, ap, ap₂}
 use mathlib.Core.List.{List, [], _∷_}
-use lib.Dec.{T, eqb, eqb→eq}
+use lib.ListN.{length, getD, drop}
 use Rattle.basics.specs.Tables.{table, raster}
-use Rattle.grid.specs.Starred.{Case}
+use Rattle.grid.specs.Starred.{Question, erosionLevels, openingLevels, dilationLevels, closingLevels, erodedBy, openedBy, Case}
 use Rattle.grid.specs.Starred.{table as cases}
+use Rattle.grid.proofs.Searches.{Yes, by-test, both-dec}
 use Rattle.element.specs.Cells.{sevenBySeven, isHeld, centredCell, centred, turned, flat, unflat}
 use Rattle.sheet.specs.Sheets.{pixel, packedByte, packed}
 use Rattle.row.specs.RowRule.{cellNumber, within, levelAt, partner, least, firstMet, lowered, pointRule, place, columns, rowRule}
 use Rattle.scan.specs.Scan.{scanRow, scanRows}
 use Rattle.run.specs.Starting.{inked, startLevels}
 use Rattle.run.specs.Pictures.{collected, thresholded}
-use Rattle.run.specs.StarredRuns.{given, expected, RunsGive, AfterOneRow}
+use Rattle.run.specs.StarredRuns.{Given, RunsGive, AfterOneRow}
 
-same : List ℕ → List ℕ → Bool
-same [] [] = true
-same [] (y ∷ ys) = false
-same (x ∷ xs) [] = false
-same (x ∷ xs) (y ∷ ys) = eqb x y && same xs ys
+list-dec : (xs ys : List ℕ) → Dec (xs ≡ ys)
+list-dec [] [] = yes refl
+list-dec [] (y ∷ ys) = no (λ e. let l : 0 ≡ suc (length ys) = ap length e in omega arith)
+list-dec (x ∷ xs) [] = no (λ e. let l : suc (length xs) ≡ 0 = ap length e in omega arith)
+list-dec (x ∷ xs) (y ∷ ys) = go (ℕ-discrete x y) (list-dec xs ys)
+  where
+    go : Dec (x ≡ y) → Dec (xs ≡ ys) → Dec (x ∷ xs ≡ y ∷ ys)
+    go (yes e) (yes d) = yes (ap₂ _∷_ e d)
+    go (yes e) (no d) = no (λ f. d (ap (drop 1) f))
+    go (no e) d = no (λ f. e (ap (λ l. getD l 0 0) f))
 
-both : (a b : Bool) → T (a && b) → T a × T b
-both true true t = (tt, tt)
-both true false t = absurd t
-both false b t = absurd t
+given-dec : (q : Question) (c : Case) → Dec (Given q c)
+given-dec erosionLevels c = list-dec _ _
+given-dec (dilationLevels R) c = list-dec _ _
+given-dec (erodedBy n) c = list-dec _ _
+given-dec openingLevels c = yes tt
+given-dec (closingLevels R) c = yes tt
+given-dec (openedBy n) c = yes tt
 
-same-is : (xs ys : List ℕ) → T (same xs ys) → xs ≡ ys
-unfolding same
-same-is [] [] t = refl
-same-is [] (y ∷ ys) t = absurd t
-same-is (x ∷ xs) [] t = absurd t
-same-is (x ∷ xs) (y ∷ ys) t = let b = both (eqb x y) (same xs ys) t in ap₂ _∷_ (eqb→eq x y (b .0)) (same-is xs ys (b .1))
-
-test : List Case → Bool
-test [] = true
-test (c ∷ rest) = same (given (c .question) c) (expected (c .question) c) && test rest
-
-tested : (rest : List Case) → T (test rest) → RunsGive rest
-unfolding test
-tested [] t = tt
-tested (c ∷ rest) t = let b = both (same (given (c .question) c) (expected (c .question) c)) (test rest) t in (same-is _ _ (b .0), tested rest (b .1))
+all-dec : (rest : List Case) → Dec (RunsGive rest)
+all-dec [] = yes tt
+all-dec (c ∷ rest) = both-dec (given-dec (c .question) c) (all-dec rest)
 
 -- THE CLAIM
 pub starred-runs : RunsGive cases
-unfolding test same table raster sevenBySeven isHeld centredCell centred turned flat unflat pixel packedByte packed cellNumber within levelAt partner least firstMet lowered pointRule place columns rowRule scanRow scanRows inked startLevels collected thresholded
-starred-runs = tested cases tt
+unfolding Yes list-dec given-dec all-dec both-dec ℕ-discrete table raster sevenBySeven isHeld centredCell centred turned flat unflat pixel packedByte packed cellNumber within levelAt partner least firstMet lowered pointRule place columns rowRule scanRow scanRows inked startLevels collected thresholded
+starred-runs = by-test (all-dec cases) tt
 
 pub after-one-row : AfterOneRow
 unfolding table raster sevenBySeven isHeld centredCell centred turned flat unflat pixel packedByte packed cellNumber within levelAt partner least firstMet lowered pointRule place columns rowRule scanRow scanRows inked startLevels

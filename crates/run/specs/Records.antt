@@ -1,9 +1,8 @@
 -- A run's record, and what follows from it: the area worked on, the rows due, and whether a start could have given it.
 use Prim.Native.Nat.{ℕ, _+_, _*_, _/_, _%_}
-use mathlib.Core.Path.{_≡_}
-use mathlib.Core.Bool.{Bool, true, false, not, cond, _&&_, _||_}
+use mathlib.Core.Bool.{Bool, false, not, cond, _&&_, _||_}
 use mathlib.Core.List.{List, [], _∷_}
-use lib.Dec.{eqb, leb, ltb}
+use lib.Dec.{eqb, ltb}
 use lib.ListN.{getD, replicate}
 use Rattle.grid.specs.Figures.{reach}
 use Rattle.element.specs.Elements.{isSide, anyAboveOne, countSet}

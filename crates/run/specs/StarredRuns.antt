@@ -4,7 +4,7 @@ use mathlib.Core.Path.{_≡_}
 use mathlib.Core.List.{List, [], _∷_}
 use lib.ListN.{replicate}
 use Rattle.basics.specs.Tables.{raster}
-use Rattle.grid.specs.Starred.{drawn, Question, erosionLevels, openingLevels, dilationLevels, closingLevels, erodedBy, openedBy, Case, table, pair, oneRow, case}
+use Rattle.grid.specs.Starred.{drawn, Question, erosionLevels, openingLevels, dilationLevels, closingLevels, erodedBy, openedBy, Case, pair, oneRow, case}
 use Rattle.sheet.specs.Sheets.{packed}
 use Rattle.row.specs.RowRule.{none}
 use Rattle.scan.specs.Scan.{scanRows}
@@ -14,39 +14,41 @@ use Rattle.run.specs.Starting.{startRecord, startLevels}
 use Rattle.run.specs.Pictures.{collected, thresholded}
 use Rattle.run.specs.Demand2.{finished}
 
+-- a case's sheet, element and answer, as calls take and give them
+abbrev pub sheetOf : Case → List ℕ
+sheetOf c = packed (c .width) (c .height) (drawn (c .sheet))
+
+abbrev pub bytesOf : Case → List ℕ
+bytesOf c = raster 3 3 (drawn (c .shape))
+
+abbrev pub levelsOf : Case → List ℕ
+levelsOf c = raster (c .width) (c .height) (drawn (c .expected))
+
+abbrev pub pictureOf : Case → List ℕ
+pictureOf c = packed (c .width) (c .height) (drawn (c .expected))
+
 -- a case's record and start levels: an erosion, or a dilation with its cap
 abbrev pub erosionOf : Case → Record
-erosionOf c = startRecord 1 (c .width) (c .height) 0 3 (raster 3 3 (drawn (c .shape)))
+erosionOf c = startRecord 1 (c .width) (c .height) 0 3 (bytesOf c)
 
 abbrev pub dilationOf : Case → ℕ → Record
-dilationOf c R = startRecord 2 (c .width) (c .height) R 3 (raster 3 3 (drawn (c .shape)))
+dilationOf c R = startRecord 2 (c .width) (c .height) R 3 (bytesOf c)
 
 abbrev pub begun : Case → Record → ℕ → ℕ → List ℕ
-begun c r on off = startLevels (c .width) (c .height) (margin r) (packed (c .width) (c .height) (drawn (c .sheet))) on off
+begun c r on off = startLevels (c .width) (c .height) (margin r) (sheetOf c) on off
 
-abbrev pub expectedLevels : Case → List ℕ
-expectedLevels c = raster (c .width) (c .height) (drawn (c .expected))
-
--- the finished run gives the table's answer
-abbrev pub given : Question → Case → List ℕ
-given erosionLevels c = collected (erosionOf c) (finished (erosionOf c) (begun c (erosionOf c) none 0))
-given (dilationLevels R) c = collected (dilationOf c R) (finished (dilationOf c R) (begun c (dilationOf c R) 1 none))
-given (erodedBy n) c = thresholded (erosionOf c) (finished (erosionOf c) (begun c (erosionOf c) none 0)) n
-given openingLevels c = []
-given (closingLevels R) c = []
-given (openedBy n) c = []
-
-abbrev pub expected : Question → Case → List ℕ
-expected erosionLevels c = expectedLevels c
-expected (dilationLevels R) c = expectedLevels c
-expected (erodedBy n) c = packed (c .width) (c .height) (drawn (c .expected))
-expected openingLevels c = []
-expected (closingLevels R) c = []
-expected (openedBy n) c = []
+-- the finished run gives the table's answer; openings and closings are no runs (StarredFilters of filters)
+abbrev pub Given : Question → Case → Type 0
+Given erosionLevels c = collected (erosionOf c) (finished (erosionOf c) (begun c (erosionOf c) none 0)) ≡ levelsOf c
+Given (dilationLevels R) c = collected (dilationOf c R) (finished (dilationOf c R) (begun c (dilationOf c R) 1 none)) ≡ levelsOf c
+Given (erodedBy n) c = thresholded (erosionOf c) (finished (erosionOf c) (begun c (erosionOf c) none 0)) n ≡ pictureOf c
+Given openingLevels c = Unit {0}
+Given (closingLevels R) c = Unit {0}
+Given (openedBy n) c = Unit {0}
 
 abbrev pub RunsGive : List Case → Type 0
 RunsGive [] = Unit {0}
-RunsGive (c ∷ cases) = (given (c .question) c ≡ expected (c .question) c) × RunsGive cases
+RunsGive (c ∷ cases) = Given (c .question) c × RunsGive cases
 
 -- case 2 after one row: all levels are 65,535
 abbrev pub second : Case

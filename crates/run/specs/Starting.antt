@@ -7,7 +7,6 @@ use lib.Dec.{eqb, leb, ltb}
 use lib.ListN.{length}
 use Rattle.basics.specs.Refusals.{Refusal, Answers}
 use Rattle.basics.specs.Tables.{raster}
-use Rattle.grid.specs.Figures.{reach}
 use Rattle.element.specs.Elements.{elementRefusals}
 use Rattle.element.specs.Cells.{centred, flat}
 use Rattle.sheet.specs.Sheets.{pixel, sheetRefusals}

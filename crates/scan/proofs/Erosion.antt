@@ -8,7 +8,7 @@ use Prim.Native.Nat.{ℕ, suc, _+_, _*_, _≤_, _<_, max}
 use native.Mathlib.Decide.{decLt}
 use native.Mathlib.Omega.{arith}
 use lib.ListN.{getD}
-use Rattle.grid.specs.Points.{Point, at, origin, _⊕_}
+use Rattle.grid.specs.Points.{Point, origin, _⊕_}
 use Rattle.grid.specs.Sets.{PointSet, eroded}
 use Rattle.grid.specs.Levels.{IsErosionLevel}
 use Rattle.grid.specs.Figures.{frame}

@@ -9,10 +9,11 @@ use mathlib.Core.List.{List}
 use lib.Dec.{ltb}
 use lib.ListN.{length}
 use borrow.Author.Tests.{lt-ltb, ltb-true}
-use Rattle.basics.specs.Tables.{raster}
 use Rattle.basics.proofs.Arithmetic.{entry-below}
 use Rattle.basics.proofs.TableLaws.{length-raster, getD-raster}
-use Rattle.grid.specs.Sets.{_⊆_}
+use Rattle.grid.specs.Sets.{_⊆_, _≈_}
+use Rattle.grid.specs.Figures.{figure}
+use Rattle.grid.proofs.FigureLaws.{figure-same}
 use Rattle.sheet.specs.Sheets.{rowBytes, bit, pixel, foreground, packedByte, packed}
 
 -- the byte of a pixel is in the raster
@@ -29,7 +30,7 @@ pixel-binary width bytes row col = omega arith
 
 -- PADDING IS NEVER READ: sheets with the same pixels in the frame mean the same set
 pub padding-ignored : (width height : ℕ) (bytes bytes′ : List ℕ) → ((row col : ℕ) → row < height → col < width → pixel width bytes row col ≡ pixel width bytes′ row col) → foreground width height bytes ⊆ foreground width height bytes′
-padding-ignored width height bytes bytes′ same x (row, col, a, b, v, e) = (row, col, a, b, sym (same row col a b) ∙ v, e)
+padding-ignored width height bytes bytes′ same = figure-same width height (pixel width bytes) (pixel width bytes′) (λ row col a b v. sym (same row col a b) ∙ v)
 
 -- the eight bits of a weighted sum
 sum-bit : (a b c d e f g h : ℕ) → a ≤ 1 → b ≤ 1 → c ≤ 1 → d ≤ 1 → e ≤ 1 → f ≤ 1 → g ≤ 1 → h ≤ 1
@@ -84,3 +85,10 @@ module _ (width height : ℕ) (pixels : ℕ → ℕ → ℕ) where
       ap (λ byte. bit byte (col % 8)) (getD-raster (rowBytes width) height (λ row k. packedByte width (pixels row) k) row (col / 8) 0 a (omega arith))
       ∙ bit-packed width (pixels row) (λ c l. binary row c a l) (col / 8) (col % 8) (omega arith)
       ∙ bit-at width (pixels row) (λ c l. binary row c a l) col b
+
+  -- and so means the set that they draw
+  pub packed-means : ((row col : ℕ) → row < height → col < width → pixels row col ≤ 1) → foreground width height (packed width height pixels) ≈ figure width height pixels
+  packed-means binary = (
+    figure-same width height (pixel width (packed width height pixels)) pixels (λ row col a b v. sym (pixel-packed binary row col a b) ∙ v),
+    figure-same width height pixels (pixel width (packed width height pixels)) (λ row col a b v. pixel-packed binary row col a b ∙ v),
+  )

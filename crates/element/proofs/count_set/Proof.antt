@@ -5,7 +5,7 @@ use borrow.Author.Needs.{needs}
 use native.Mathlib.Omega.{arith}
 use Prim.Native.Nat.{_+_, _-_, _≤_}
 use mathlib.Core.Path.{_≡_}
-use lib.ListN.{length, drop, set}
+use lib.ListN.{length, drop}
 use Rattle.element.proofs.count_set.Statement.{statement}
 use Rattle.element.proofs.count_set.Tie as tie
 

@@ -5,7 +5,6 @@ use borrow.Author.Needs.{needs}
 use native.Mathlib.Omega.{arith}
 use Prim.Native.Nat.{_*_}
 use mathlib.Core.Path.{ap}
-use lib.ListN.{length}
 use Rattle.pbm.proofs.raster_refusal.Statement.{statement}
 use Rattle.pbm.proofs.raster_refusal.Tie as tie
 

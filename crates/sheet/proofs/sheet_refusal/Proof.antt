@@ -4,7 +4,6 @@ use borrow.Author.Needs.{needs}
 use native.Mathlib.Omega.{arith}
 use Prim.Native.Nat.{_*_}
 use mathlib.Core.Path.{sym, ap, _∙_}
-use lib.ListN.{length}
 use Rattle.sheet.proofs.sheet_refusal.Statement.{statement}
 use Rattle.sheet.proofs.sheet_refusal.Tie as tie
 

@@ -4,7 +4,6 @@ use Rattle.harness.proofs.AnswerLaws.{answer-after, answer-other}
 use Rattle.harness.proofs.RunAnswers.{start-refuses, start-accepts}
 use borrow.Author.Needs.{needs}
 use mathlib.Core.Path.{sym, _∙_}
-use lib.ListN.{length}
 use Rattle.harness.proofs.runs.wt_start_erosion.Statement.{statement}
 use Rattle.harness.proofs.runs.wt_start_erosion.Tie as tie
 

@@ -1,0 +1,31 @@
+-- Document 01's starred cases once more, through the contracts of opening and closing: the one outcome that each of them allows is the table's.
+use Prim.Native.Nat.{ℕ, _*_}
+use mathlib.Core.Path.{_≡_}
+use mathlib.Core.List.{List, [], _∷_}
+use lib.ListN.{length}
+use Rattle.grid.specs.Starred.{Question, erosionLevels, openingLevels, dilationLevels, closingLevels, erodedBy, openedBy, Case}
+use Rattle.run.specs.StarredRuns.{sheetOf, bytesOf, levelsOf, pictureOf}
+use Rattle.filters.specs.Filters.{Lent, canvasSize, Opens, OpeningLevels, ClosingLevels}
+
+-- buffers of the sizes asked for, whatever they hold
+pub record Fits (work size : ℕ) (lent : Lent) : Type 0 where
+  pub first : length (lent .first) ≡ work
+  pub second : length (lent .second) ≡ work
+  pub out : length (lent .out) ≡ size
+
+-- a call that keeps the contract, lent such buffers, answers 0 and gives `answer`
+abbrev pub Gives : (Lent → ℕ → Lent → Type 0) → ℕ → List ℕ → Type 0
+Gives Contract work answer = (lent after : Lent) (number : ℕ) → Fits work (length answer) lent → Contract lent number after → (number ≡ 0) × (after .out ≡ answer)
+
+-- so for the opening and closing questions of the table; the others are runs' (StarredRuns of run)
+abbrev pub Given : Question → Case → Type 0
+Given openingLevels c = Gives (OpeningLevels (c .width) (c .height) (sheetOf c) 3 (bytesOf c)) (c .height * c .width) (levelsOf c)
+Given (closingLevels R) c = Gives (ClosingLevels (c .width) (c .height) (sheetOf c) 3 (bytesOf c) R) (canvasSize (c .width) (c .height) R 3) (levelsOf c)
+Given (openedBy n) c = Gives (Opens (c .width) (c .height) (sheetOf c) 3 (bytesOf c) n) (c .height * c .width) (pictureOf c)
+Given erosionLevels c = Unit {0}
+Given (dilationLevels R) c = Unit {0}
+Given (erodedBy n) c = Unit {0}
+
+abbrev pub FiltersGive : List Case → Type 0
+FiltersGive [] = Unit {0}
+FiltersGive (c ∷ cases) = Given (c .question) c × FiltersGive cases

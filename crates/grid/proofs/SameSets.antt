@@ -1,0 +1,54 @@
+-- The same set and the same element give the same sizes, the same levels and the same answers, however the two are written down.
+-- nK grows with K, by induction on n; the rest follows since erosion and dilation grow or shrink with each of their sets.
+use mathlib.Core.Logic.{inl, inr, _↔_}
+use Prim.Native.Nat.{ℕ, zero, suc}
+use Rattle.grid.specs.Points.{Point}
+use Rattle.grid.specs.Sets.{PointSet, fold, eroded, dilated, opened, closed, _⊆_, _≈_}
+use Rattle.grid.specs.Levels.{IsLast, IsFirst}
+use Rattle.grid.specs.Starred.{Question, erosionLevels, openingLevels, dilationLevels, closingLevels, erodedBy, openedBy, IsPixel, IsAnswer}
+use Rattle.grid.proofs.SetLaws.{dilate-parts, erode-parts}
+
+fold-parts : (K L : PointSet) → K ⊆ L → (n : ℕ) → fold K n ⊆ fold L n
+fold-parts K L part zero = λ x h. h
+fold-parts K L part (suc n) = dilate-parts part (fold-parts K L part n)
+
+eroded-parts : (A B K L : PointSet) → A ⊆ B → L ⊆ K → (n : ℕ) → eroded A K n ⊆ eroded B L n
+eroded-parts A B K L part smaller n = erode-parts A B (fold K n) (fold L n) part (fold-parts L K smaller n)
+
+dilated-parts : (A B K L : PointSet) → A ⊆ B → K ⊆ L → (n : ℕ) → dilated A K n ⊆ dilated B L n
+dilated-parts A B K L part larger n = dilate-parts part (fold-parts K L larger n)
+
+-- THE FOUR SETS
+module _ {A B K L : PointSet} (same : A ≈ B) (alike : K ≈ L) (n : ℕ) where
+  pub eroded-same : eroded A K n ≈ eroded B L n
+  eroded-same = (eroded-parts A B K L (same .0) (alike .1) n, eroded-parts B A L K (same .1) (alike .0) n)
+
+  pub dilated-same : dilated A K n ≈ dilated B L n
+  dilated-same = (dilated-parts A B K L (same .0) (alike .0) n, dilated-parts B A L K (same .1) (alike .1) n)
+
+module _ {A B K L : PointSet} (same : A ≈ B) (alike : K ≈ L) (n : ℕ) where
+  pub opened-same : opened A K n ≈ opened B L n
+  opened-same = dilated-same (eroded-same same alike n) alike n
+
+  pub closed-same : closed A K n ≈ closed B L n
+  closed-same = eroded-same (dilated-same same alike n) alike n
+
+-- a level, and a pixel, of two properties that hold of the same sizes
+last-same : {F G : ℕ → Type 0} {m : ℕ} → ((n : ℕ) → F n ↔ G n) → IsLast F m → IsLast G m
+last-same same p = record { holds = λ k e. same k .0 (p .holds k e); above = λ j g. p .above j (same j .1 g) }
+
+first-same : {R : ℕ} {F G : ℕ → Type 0} {m : ℕ} → ((n : ℕ) → F n ↔ G n) → IsFirst R F m → IsFirst R G m
+first-same same p = record { capped = p .capped; holds = λ k e. same k .0 (p .holds k e); below = λ j l g. p .below j l (same j .1 g) }
+
+pixel-same : {P Q : Type 0} {v : ℕ} → P ↔ Q → IsPixel P v → IsPixel Q v
+pixel-same same (inl p) = inl (p .0, same .0 (p .1))
+pixel-same same (inr p) = inr (p .0, λ q. p .1 (same .1 q))
+
+-- EVERY ANSWER
+pub answer-same : {A B K L : PointSet} → A ≈ B → K ≈ L → (q : Question) (x : Point) (v : ℕ) → IsAnswer q A K x v → IsAnswer q B L x v
+answer-same same alike erosionLevels x v = last-same (λ n. let e = eroded-same same alike n in (e .0 x, e .1 x))
+answer-same same alike openingLevels x v = last-same (λ n. let e = opened-same same alike n in (e .0 x, e .1 x))
+answer-same same alike (dilationLevels R) x v = first-same (λ n. let e = dilated-same same alike n in (e .0 x, e .1 x))
+answer-same same alike (closingLevels R) x v = first-same (λ n. let e = closed-same same alike n in (e .0 x, e .1 x))
+answer-same same alike (erodedBy n) x v = let e = eroded-same same alike n in pixel-same (e .0 x, e .1 x)
+answer-same same alike (openedBy n) x v = let e = opened-same same alike n in pixel-same (e .0 x, e .1 x)
