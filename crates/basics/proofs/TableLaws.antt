@@ -1,13 +1,13 @@
 -- Laws of tables, and of buffers that a loop fills from the front, one store a turn.
-use Prim.Native.Nat.{ℕ, zero, suc, _+_, _-_, _*_, _/_, _%_, _≤_, _<_}
+use Prim.Native.Nat.{ℕ, zero, suc, _+_, _*_, _/_, _%_, _≤_, _<_}
 use native.Mathlib.Nat.{le-of-eq}
 use native.Mathlib.Numerals.{add-one}
 use native.Mathlib.Decide.{ℕ-discrete}
 use native.Mathlib.Omega.{arith}
-use mathlib.Core.List.{List, [], _∷_, _++_, append-nil, append-assoc}
+use mathlib.Core.List.{List, [], _∷_, _++_, append-assoc}
 use mathlib.Core.Path.{_≡_, refl, sym, ap, ap₂, _∙_}
-use lib.ListN.{length, getD, take, drop, set, length-set, length-append, length-drop, drop-of-length-le, List·getD-append}
-use lib.Seq.{take-suc-set, take-all, getD-at, getD-append-add, getD-drop, drop-cons, set-at, ext-getD}
+use lib.ListN.{length, getD, take, drop, set, length-set, length-append, length-drop, List·getD-append}
+use lib.Seq.{take-suc-set, take-all, getD-at, drop-cons, set-at, ext-getD}
 use Rattle.basics.specs.Tables.{table, raster, filled}
 use Rattle.basics.proofs.Arithmetic.{row-of, column-of, row-below, column-below, entry-of, entry-below}
 
@@ -41,25 +41,9 @@ module _ {A : Type 0} (f : ℕ → A) where
       rw (e, q, drop-cons buffer i v l)
       (set-at (table i f) (getD buffer i v) (drop (suc i) buffer) (f i) i (length-table i) ∙ sym (append-assoc (table i f) (f i ∷ []) (drop (suc i) buffer)) ∙ ap (λ n. table n f ++ drop n buffer) (sym (add-one i)))
 
-  pub filled-all : (n : ℕ) (buffer : List A) → length buffer ≤ n → filled n f buffer ≡ table n f
-  unfolding filled
-  filled-all n buffer l = rw (drop-of-length-le buffer l, append-nil)
-
   pub length-filled : (n : ℕ) (buffer : List A) → n ≤ length buffer → length (filled n f buffer) ≡ length buffer
   unfolding filled
   length-filled n buffer l = let e = length-append (table n f) (drop n buffer) in let t = length-table n in let d = length-drop n buffer in omega arith
-
-  pub getD-filled : (n k : ℕ) (buffer : List A) (d : A) → k < n → getD (filled n f buffer) k d ≡ f k
-  unfolding filled
-  getD-filled n k buffer d l = let s = length-table n in List·getD-append (table n f) (drop n buffer) d k (omega arith) ∙ getD-table n k d l
-
-  pub getD-beyond : (n k : ℕ) (buffer : List A) (d : A) → n ≤ k → getD (filled n f buffer) k d ≡ getD buffer k d
-  unfolding filled
-  getD-beyond n k buffer d l =
-      let m = k - n in
-      let s : k ≡ length (table n f) + m = let t = length-table n in omega arith in
-      let e : n + m ≡ k = omega arith in
-      ap (λ j. getD (table n f ++ drop n buffer) j d) s ∙ getD-append-add (table n f) (drop n buffer) m d ∙ getD-drop n buffer m d ∙ ap (λ j. getD buffer j d) e
 
 -- a loop that fills a whole array of n entries: the first i are f's
 pub record Filling {A : Type 0} (n : ℕ) (f : ℕ → A) (i : ℕ) (out : List A) : Type 0 where

@@ -8,8 +8,8 @@ use mathlib.Core.Logic.{_≢_}
 use mathlib.Core.Bool.{Bool, true, false, _&&_, false≢true}
 use mathlib.Core.List.{List, [], _∷_, _++_, append-assoc, append-nil}
 use lib.Dec.{leb}
-use lib.ListN.{length, getD, take, drop, length-append, length-drop, List·getD-append, List·getD-eq-default}
-use lib.Seq.{drop-at, take-at, length-take-le}
+use lib.ListN.{length, getD, take, drop, length-append, List·getD-append, List·getD-eq-default}
+use lib.Seq.{drop-at, length-take-le}
 use borrow.Author.Tests.{lt-ltb, le-ltb, leb-true, le-leb, lt-leb}
 use Rattle.decimal.specs.Numbers.{isDigit, allDigits, valueFrom, value, digitsIn, digits, digitRun, written}
 
@@ -220,18 +220,6 @@ module _ (n at : ℕ) (buffer : List ℕ) (fits : at + length (digits n) ≤ len
 
   pub written-from : drop at (written n at buffer) ≡ digits n ++ drop (at + length (digits n)) buffer
   written-from = drop-at (take at buffer) (digits n ++ drop (at + length (digits n)) buffer) at before-length
-
-  pub written-length : length (written n at buffer) ≡ length buffer
-  written-length = simp (length-append, length-drop, before-length) (omega arith)
-
-  front-length : length (take at buffer ++ digits n) ≡ at + length (digits n)
-  front-length = length-append (take at buffer) (digits n) ∙ ap (λ k. k + length (digits n)) before-length
-
-  pub written-front : take (at + length (digits n)) (written n at buffer) ≡ take at buffer ++ digits n
-  written-front = rw (← append-assoc) (take-at (take at buffer ++ digits n) (drop (at + length (digits n)) buffer) (at + length (digits n)) front-length)
-
-  pub written-rest : drop (at + length (digits n)) (written n at buffer) ≡ drop (at + length (digits n)) buffer
-  written-rest = rw (← append-assoc) (drop-at (take at buffer ++ digits n) (drop (at + length (digits n)) buffer) (at + length (digits n)) front-length)
 
   -- THE ROUND TRIP: where a number was written, and the list ends or goes on with no digit, its digits are read, it is their value, and the place
   -- after them is the place after the number

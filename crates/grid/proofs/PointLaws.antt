@@ -1,7 +1,7 @@
 -- Laws of points: sums by components, from the integers' own laws; and equations of integers turned into equations of naturals, which omega reads.
 use mathlib.Core.Path.{_≡_, sym, _∙_, ap, ap₂}
 use Prim.Native.Nat.{ℕ, suc, _+_}
-use lib.IntN.{ℤ, pos, negsuc, negℤ, _+ℤ_, _-ℤ_, +ℤ-idr, +ℤ-assoc, +ℤ-comm, -ℤ-+ℤ-cancel, +ℤ-negℤ-cancel, negℤ-+ℤ, negℤ-negℤ, ℤ-discrete}
+use lib.IntN.{ℤ, pos, negsuc, negℤ, _+ℤ_, _-ℤ_, +ℤ-idr, +ℤ-assoc, +ℤ-comm, -ℤ-+ℤ-cancel, +ℤ-negℤ-cancel, negℤ-+ℤ, negℤ-negℤ}
 use Rattle.grid.specs.Points.{Point, at, origin, _⊕_, neg}
 
 pub ⊕-assoc : (p q s : Point) → (p ⊕ q) ⊕ s ≡ p ⊕ (q ⊕ s)
@@ -35,17 +35,6 @@ neg-neg p = ap₂ at (negℤ-negℤ (p .row)) (negℤ-negℤ (p .col))
 -- x = a + b is a = x - b, and the other way
 pub ⊕-move : (x a b : Point) → x ≡ a ⊕ b → a ≡ x ⊕ neg b
 ⊕-move x a b e = sym (⊕-cancel a b) ∙ ap (λ z. z ⊕ neg b) (sym e)
-
-pub ⊖-move : (x a b : Point) → a ≡ x ⊕ neg b → x ≡ a ⊕ b
-⊖-move x a b e = sym (⊖-cancel x b) ∙ ap (λ z. z ⊕ b) (sym e)
-
-unfoldable pub point-eq : (p q : Point) → Dec (p ≡ q)
-point-eq p q = both (ℤ-discrete (p .row) (q .row)) (ℤ-discrete (p .col) (q .col))
-  where
-    both : Dec (p .row ≡ q .row) → Dec (p .col ≡ q .col) → Dec (p ≡ q)
-    both (yes e) (yes f) = yes (ap₂ at e f)
-    both (yes e) (no n) = no (λ h. n (ap (λ z. z .col) h))
-    both (no n) d = no (λ h. n (ap (λ z. z .row) h))
 
 toℕ : ℤ → ℕ
 toℕ (pos n) = n

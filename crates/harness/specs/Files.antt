@@ -3,10 +3,11 @@
 use Prim.Native.Nat.{ℕ}
 use mathlib.Core.Path.{_≡_}
 use mathlib.Core.List.{List, [], _∷_, _++_}
-use lib.ListN.{length, drop}
+use lib.ListN.{length}
 use Rattle.basics.specs.Refusals.{Refusal, Answers}
 use Rattle.pbm.specs.Header.{header}
-use Rattle.pbm.specs.Pbm.{begun, pbmText, readRefusals, readAnswer, writeRefusals}
+use Rattle.text.specs.Writing.{begun}
+use Rattle.pbm.specs.Pbm.{pbmText, readRefusals, readAnswer, writeRefusals}
 use Rattle.pgm.specs.WritePgm.{picture, pgmRefusals}
 use Rattle.harness.specs.Boundary.{recordOf, wordsRefusal, answerRefusal, atEleven}
 
@@ -36,4 +37,4 @@ pictureRefusals words levels out answer = wordsRefusal words ∷ atEleven (answe
 abbrev pub WritesPicture : List ℕ → List ℕ → List ℕ → List ℕ → ℕ → List ℕ × List ℕ → Type 0
 WritesPicture words levels out answer =
     Answers (pictureRefusals words levels out answer) (out, answer)
-    (λ after. after ≡ (picture (recordOf words) levels ++ drop (length (picture (recordOf words) levels)) out, length (picture (recordOf words) levels) ∷ []))
+    (λ after. after ≡ (begun (picture (recordOf words) levels) out, length (picture (recordOf words) levels) ∷ []))

@@ -13,7 +13,8 @@ use Rattle.basics.specs.Tables.{table, raster, filled}
 use Rattle.basics.proofs.Arithmetic.{column-of, column-below, entry-of}
 use Rattle.basics.proofs.TableLaws.{length-table, filled-none, filled-more, length-filled}
 use Rattle.sheet.specs.Sheets.{rowBytes, pixel, packedByte, packed}
-use Rattle.pbm.specs.Pbm.{begun, cleared}
+use Rattle.text.specs.Writing.{begun}
+use Rattle.pbm.specs.Pbm.{cleared}
 use Rattle.pbm.proofs.PackingLaws.{packed-byte}
 
 -- byte k of the packed sheet

@@ -2,7 +2,6 @@ pub mod RunLaws
 pub mod HeaderLaws
 pub mod PackingLaws
 pub mod ClearingLaws
-pub mod BufferLaws
 pub mod Reading
 pub mod Writing
 pub mod LayoutLaws

@@ -13,9 +13,10 @@ use Rattle.basics.proofs.RefusalLaws.{first-refused, first-accepted, passed, re
 use Rattle.sheet.specs.Sheets.{rowBytes, isSideOut, frameRefusals}
 use Rattle.sheet.proofs.FrameLaws.{frame-sides}
 use Rattle.pbm.specs.Header.{beginsP4, whole, header}
-use Rattle.pbm.specs.Pbm.{begun, cleared, isBroken, frameOf, headerRefusals, rasterRefusals, roomRefusals, rasterOf, readRefusals, readAnswer, ReadsPbm}
+use Rattle.text.specs.Writing.{begun}
+use Rattle.pbm.specs.Pbm.{cleared, isBroken, frameOf, headerRefusals, rasterRefusals, roomRefusals, rasterOf, readRefusals, readAnswer, ReadsPbm}
 use Rattle.pbm.specs.Steps.{HeaderRead}
-use Rattle.pbm.proofs.BufferLaws.{part-is}
+use Rattle.text.proofs.WroteLaws.{part-is}
 
 -- the raster's refusals
 module _ (width height : ℕ) (raster : List ℕ) where

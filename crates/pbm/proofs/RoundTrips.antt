@@ -16,11 +16,12 @@ use Rattle.decimal.proofs.NumberLaws.{value-digits, digits-all, digits-some}
 use Rattle.sheet.specs.Sheets.{rowBytes, pixel, frameRefusals, sheetRefusals}
 use Rattle.sheet.proofs.FrameLaws.{accept-sheet, sheet-accepted}
 use Rattle.pbm.specs.Header.{isWhite, all, beginsP4, whole, header, Layout}
-use Rattle.pbm.specs.Pbm.{begun, cleared, roomRefusals, readRefusals, readAnswer, ReadsPbm, headerText, pbmText, writeRefusals, WritesPbm}
+use Rattle.text.specs.Writing.{begun}
+use Rattle.pbm.specs.Pbm.{cleared, roomRefusals, readRefusals, readAnswer, ReadsPbm, headerText, pbmText, writeRefusals, WritesPbm}
 use Rattle.pbm.proofs.RunLaws.{all-digits}
 use Rattle.pbm.proofs.LayoutLaws.{layout-whole, p4-begins}
 use Rattle.pbm.proofs.PackingLaws.{length-cleared, pixel-cleared, cleared-twice}
-use Rattle.pbm.proofs.BufferLaws.{take-begun}
+use Rattle.text.proofs.WroteLaws.{take-begun}
 use Rattle.pbm.proofs.Reading.{raster-exact, whole-accepted}
 
 module _ (width height : ℕ) (sheet : List ℕ) where

@@ -1,35 +1,22 @@
--- Writing: the header byte by byte and number by number, then each answer of the call. What is written always makes the text at the front of the output longer.
+-- Writing: the header in its pieces and the raster after it make the text at the front of the output; then each answer of the call.
 use Prim.Native.Nat.{ℕ, _+_, _-_, _*_, _≤_, _<_}
 use native.Mathlib.Omega.{arith}
-use mathlib.Core.Path.{_≡_, refl, sym, ap, ap₂, _∙_}
+use mathlib.Core.Path.{_≡_, sym, ap, ap₂, _∙_}
 use mathlib.Core.Logic.{_≢_}
 use mathlib.Core.List.{List, [], _∷_, _++_, append-assoc}
-use lib.ListN.{length, take, drop, set, length-set, length-append, length-drop}
+use lib.ListN.{length, take, drop, length-append, length-drop}
 use borrow.Author.Tests.{lt-ltb, le-ltb}
 use borrow.Rule.Slice.PartMut.{putMid}
 use Rattle.basics.specs.Refusals.{first}
 use Rattle.basics.proofs.RefusalLaws.{first-refused, first-accepted, refuses, accepts, answers-unique}
-use Rattle.decimal.specs.Numbers.{digits, written}
+use Rattle.decimal.specs.Numbers.{digits}
 use Rattle.decimal.proofs.NumberLaws.{length-below}
 use Rattle.sheet.specs.Sheets.{rowBytes, sheetRefusals}
 use Rattle.sheet.proofs.FrameLaws.{frame-sides, raster-small, sheet-accepted}
-use Rattle.pbm.specs.Pbm.{begun, cleared, headerText, pbmText, roomRefusals, WritesPbm}
+use Rattle.text.specs.Writing.{begun, Wrote}
+use Rattle.text.proofs.WroteLaws.{fits-as, room-first, room-second, wrote-both, wrote-as, wrote-length, wrote-front, wrote-part, part-is}
+use Rattle.pbm.specs.Pbm.{cleared, headerText, pbmText, roomRefusals, WritesPbm}
 use Rattle.pbm.proofs.PackingLaws.{length-cleared}
-use Rattle.pbm.proofs.BufferLaws.{length-begun, part-is, then-byte, then-number, then-part}
-
--- "P4" and LF
-abbrev pub magic : List ℕ
-magic = 80 ∷ 52 ∷ 10 ∷ []
-
-abbrev pub withMagic : List ℕ → List ℕ
-withMagic out = set (set (set out 0 80) 1 52) 2 10
-
-magic-begun : (out : List ℕ) → 3 ≤ length out → withMagic out ≡ begun magic out
-unfolding begun
-magic-begun [] l = absurd (omega arith)
-magic-begun (a ∷ []) l = absurd (omega arith)
-magic-begun (a ∷ b ∷ []) l = absurd (omega arith)
-magic-begun (a ∷ b ∷ c ∷ out) l = refl
 
 pub length-header : (width height : ℕ) → length (headerText width height) ≡ 5 + length (digits width) + length (digits height)
 unfolding headerText
@@ -38,85 +25,27 @@ length-header width height =
     let b = length-append (digits height) (10 ∷ []) in
     omega arith
 
+-- the header in the pieces that are written: "P4", LF and the sides, then LF
+abbrev sides : ℕ → ℕ → List ℕ
+sides width height = ((80 ∷ 52 ∷ 10 ∷ []) ++ digits width) ++ ((32 ∷ []) ++ digits height)
+
+header-pieces : (width height : ℕ) → sides width height ++ (10 ∷ []) ≡ headerText width height
+unfolding headerText
+header-pieces width height = simp append-assoc
+
 module _ (width height : ℕ) (out : List ℕ) (fits : length (headerText width height) ≤ length out) where
-  pub magic-room : 3 + length (digits width) ≤ length (withMagic out)
-  magic-room =
-      let h = length-header width height in
-      let a = length-set out 0 80 in
-      let b = length-set (set out 0 80) 1 52 in
-      let c = length-set (set (set out 0 80) 1 52) 2 10 in
-      omega arith
+  room : 0 + length (sides width height ++ (10 ∷ [])) ≤ length out
+  room = fits-as (sides width height ++ (10 ∷ [])) (headerText width height) 0 (length out) (header-pieces width height) (omega arith)
 
-  -- the width
-  module _ (now₁ : List ℕ) (gap : ℕ) (g : gap ≡ 3 + length (digits width)) (e : now₁ ≡ written width 3 (withMagic out)) where
-    width-text : List ℕ
-    width-text = magic ++ digits width
+  pub sides-room : 0 + length (sides width height) ≤ length out
+  sides-room = room-first (sides width height) (10 ∷ []) 0 out room
 
-    width-length : gap ≡ length width-text
-    unfolding width-text
-    width-length = omega arith
+  module _ {b : List ℕ} {m : ℕ} (p : Wrote (sides width height) 0 out b m) where
+    pub end-room : m + 1 ≤ length b
+    end-room = room-second (sides width height) (10 ∷ []) 0 out room p
 
-    width-begun : now₁ ≡ begun width-text out
-    unfolding width-text
-    width-begun = let h = length-header width height in e ∙ ap (written width 3) (magic-begun out (omega arith)) ∙ then-number magic out 3 refl width
-
-    pub gap-room : gap < length now₁
-    gap-room =
-        let h = length-header width height in
-        let w = width-length in
-        let l = ap length width-begun ∙ length-begun width-text out (omega arith) in
-        omega arith
-
-    gap-text : List ℕ
-    gap-text = width-text ++ (32 ∷ [])
-
-    gap-length : gap + 1 ≡ length gap-text
-    unfolding gap-text
-    gap-length = let w = width-length in let a = length-append width-text (32 ∷ []) in omega arith
-
-    gap-begun : set now₁ gap 32 ≡ begun gap-text out
-    unfolding gap-text
-    gap-begun = let h = length-header width height in ap (λ xs. set xs gap 32) width-begun ∙ then-byte width-text out gap width-length 32 (omega arith)
-
-    pub height-room : gap + 1 + length (digits height) ≤ length (set now₁ gap 32)
-    height-room =
-        let h = length-header width height in
-        let w = gap-length in
-        let l = ap length gap-begun ∙ length-begun gap-text out (omega arith) in
-        omega arith
-
-    -- the height
-    module _ (now₂ : List ℕ) (end : ℕ) (f : end ≡ gap + 1 + length (digits height)) (e₂ : now₂ ≡ written height (gap + 1) (set now₁ gap 32)) where
-      height-text : List ℕ
-      height-text = gap-text ++ digits height
-
-      height-length : end ≡ length height-text
-      unfolding height-text
-      height-length = let w = gap-length in let a = length-append gap-text (digits height) in omega arith
-
-      height-begun : now₂ ≡ begun height-text out
-      unfolding height-text
-      height-begun = e₂ ∙ ap (written height (gap + 1)) gap-begun ∙ then-number gap-text out (gap + 1) gap-length height
-
-      pub end-room : end < length now₂
-      end-room =
-          let h = length-header width height in
-          let w = height-length in
-          let l = ap length height-begun ∙ length-begun height-text out (omega arith) in
-          omega arith
-
-      pub header-end : end + 1 ≡ length (headerText width height)
-      header-end = let h = length-header width height in omega arith
-
-      same-text : height-text ++ (10 ∷ []) ≡ headerText width height
-      unfolding headerText height-text gap-text width-text
-      same-text = simp append-assoc
-
-      pub header-written : set now₂ end 10 ≡ begun (headerText width height) out
-      header-written = let h = length-header width height in ap (λ xs. set xs end 10) height-begun ∙ then-byte height-text out end height-length 10 (omega arith) ∙ ap (λ text. begun text out) same-text
-
-      pub header-same-length : length (set now₂ end 10) ≡ length out
-      header-same-length = ap length header-written ∙ length-begun (headerText width height) out fits
+    pub header-wrote : {c : List ℕ} {n : ℕ} → Wrote (10 ∷ []) m b c n → Wrote (headerText width height) 0 out c n
+    header-wrote q = wrote-as (sides width height ++ (10 ∷ [])) (headerText width height) (header-pieces width height) (wrote-both (sides width height) (10 ∷ []) 0 out room p q)
 
 -- the size, from the counts of digits
 pub sizes : (width height widthCount heightCount : ℕ) (sheet : List ℕ) → widthCount ≡ length (digits width) → heightCount ≡ length (digits height)
@@ -168,16 +97,20 @@ module _ (width height : ℕ) (sheet out : List ℕ) where
           header-room = let h = length-header width height in omega arith
 
           -- the header stands in the output; the rest is lent for the raster
-          module _ (at : ℕ) (now : List ℕ) (p : at ≡ length (headerText width height)) (h : now ≡ begun (headerText width height) out) where
+          module _ (at : ℕ) (now : List ℕ) (h : Wrote (headerText width height) 0 out now at) where
+            same-length : length now ≡ length out
+            same-length = wrote-length (headerText width height) 0 out now at (let r = header-room in omega arith) h
+
             pub at-room : at ≤ length now
-            at-room = let b = ap length h ∙ length-begun (headerText width height) out header-room in let r = header-room in omega arith
+            at-room = let o = same-length in let r = header-room in let p = h .place in omega arith
 
             pub sheet-there : height * rowBytes width ≤ length sheet
             sheet-there = let q = sheet-size in omega arith
 
             pub part-room : height * rowBytes width ≤ length (take (length now - at) (drop at now))
             part-room =
-                let b = ap length h ∙ length-begun (headerText width height) out header-room in
+                let o = same-length in
+                let p = h .place in
                 let d = ap length (part-is at now) ∙ length-drop at now in
                 let n = length-header width height in
                 let q = sheet-size in
@@ -187,5 +120,7 @@ module _ (width height : ℕ) (sheet out : List ℕ) where
             unfolding pbmText
             write-accepts part q =
                 let o = size-is in
+                let r : 0 + length (headerText width height ++ cleared width height sheet) ≤ length out = omega arith in
+                let w = wrote-both (headerText width height) (cleared width height sheet) 0 out r h (wrote-part (cleared width height sheet) part now at q) in
                 accepts (size, putMid at (length now - at) now part) (room-left ∙ rw (le-ltb (length out) (length (pbmText width height sheet)) (omega arith)))
-                (ap₂ (λ n text. (n, text)) size-is (then-part (headerText width height) out at p (cleared width height sheet) part now h q))
+                (ap₂ (λ n text. (n, text)) size-is (wrote-front w .1))

@@ -4,15 +4,12 @@ use mathlib.Core.Path.{_≡_}
 use mathlib.Core.Bool.{Bool, true, false, not}
 use mathlib.Core.List.{List, [], _∷_, _++_}
 use lib.Dec.{ltb}
-use lib.ListN.{length, drop}
+use lib.ListN.{length}
 use Rattle.basics.specs.Refusals.{Refusal, Answers}
 use Rattle.decimal.specs.Numbers.{digits}
+use Rattle.text.specs.Writing.{begun}
 use Rattle.sheet.specs.Sheets.{rowBytes, pixel, frameRefusals, sheetRefusals, packed}
 use Rattle.pbm.specs.Header.{Header, broken, whole, beginsP4, header}
-
--- a buffer that begins with a text, the rest as it was
-unfoldable pub begun : List ℕ → List ℕ → List ℕ
-begun text buffer = text ++ drop (length text) buffer
 
 -- the sheet of a raster, padding cleared
 unfoldable pub cleared : ℕ → ℕ → List ℕ → List ℕ

@@ -8,7 +8,8 @@ ghost use Rattle.basics.specs.Refusals.{first};
 ghost use Rattle.sheet.specs.Sheets.{rowBytes};
 ghost use Rattle.pbm.specs.Header.{isWhite, whiteRun, isNone, beginsP4};
 ghost use Rattle.pbm.specs.Steps.{FieldRead, HeaderRead};
-ghost use Rattle.pbm.specs.Pbm.{begun, cleared, rasterRefusals, ReadsPbm, headerText, WritesPbm};
+ghost use Rattle.text.specs.Writing.{begun, Wrote};
+ghost use Rattle.pbm.specs.Pbm.{cleared, rasterRefusals, ReadsPbm, headerText, WritesPbm};
 
 // Blank, TAB, CR or LF.
 fn is_white(byte: u8) -> bool
@@ -274,16 +275,10 @@ pub fn read_pbm(file: &[u8], out: &mut [u8]) -> ReadPbm
 // Writes "P4", LF, the width, a blank, the height and LF to the front of `out`, and gives the place after them.
 fn write_header(width: usize, height: usize, out: &mut [u8]) -> usize
     requires { ⌜ length (headerText width height) ≤ length (now out) ⌝ }
-    ensures { λ r. ⌜ (r ≡ length (headerText width height)) × (now (out .exit) ≡ begun (headerText width height) (now (out .entry))) ⌝ }
+    ensures { λ r. ⌜ Wrote (headerText width height) 0 (now (out .entry)) (now (out .exit)) r ⌝ }
 {
-    out[0] = b'P';
-    out[1] = b'4';
-    out[2] = b'\n';
-    let gap = decimal::write_number(width, out, 3);
-    out[gap] = b' ';
-    let end = decimal::write_number(height, out, gap + 1);
-    out[end] = b'\n';
-    end + 1
+    let end = text::write_pair(b"P4\n", width, b" ", height, out, 0);
+    text::write_bytes(b"\n", out, end)
 }
 
 pub struct WritePbm {

@@ -5,13 +5,14 @@ use native.Mathlib.Omega.{arith}
 use mathlib.Core.Path.{_≡_, refl, sym, _∙_}
 use mathlib.Core.Bool.{Bool, true, false, not}
 use mathlib.Core.Logic.{_≢_}
-use mathlib.Core.List.{List, [], _∷_, _++_}
+use mathlib.Core.List.{List, [], _∷_}
 use lib.Dec.{eqb, ltb}
 use lib.ListN.{length, getD, drop, drop-of-length-le}
 use lib.Seq.{drop-cons}
 use borrow.Author.Tests.{lt-ltb, le-ltb, eq-eqb, ne-eqb, eqb-true, ltb-false}
 use Rattle.basics.specs.Refusals.{first}
 use Rattle.basics.proofs.RefusalLaws.{refuses, accepts, answers-unique}
+use Rattle.text.specs.Writing.{begun}
 use Rattle.run.specs.declared.Record.{Record}
 use Rattle.run.specs.Records.{due, recordBad}
 use Rattle.run.specs.Continuing.{isDone}
@@ -82,7 +83,7 @@ module _ (r : Record) (levels out : List ℕ) where
   pub picture-refuses : (number : ℕ) → number ≢ 0 → number ≡ first (pgmRefusals r levels out) → WritesPgm r levels out number (0, out)
   picture-refuses number n e = refuses number n e
 
-  pub picture-accepts : first (pgmRefusals r levels out) ≡ 0 → (size : ℕ) (after : List ℕ) → size ≡ length (picture r levels) → after ≡ picture r levels ++ drop (length (picture r levels)) out → WritesPgm r levels out 0 (size, after)
+  pub picture-accepts : first (pgmRefusals r levels out) ≡ 0 → (size : ℕ) (after : List ℕ) → size ≡ length (picture r levels) → after ≡ begun (picture r levels) out → WritesPgm r levels out 0 (size, after)
   picture-accepts z size after e f = accepts (size, after) z (λ i. (e i, f i))
 
   pub write-pgm-unique : (m n : ℕ) (x y : ℕ × List ℕ) → WritesPgm r levels out m x → WritesPgm r levels out n y → (m ≡ n) × (x ≡ y)

@@ -5,8 +5,8 @@ use mathlib.Core.List.{List, [], _∷_, _++_, append-assoc}
 use lib.ListN.{length}
 use Rattle.decimal.specs.Numbers.{digits}
 use Rattle.pgm.specs.PgmText.{line, rowsRemark, headerText}
-use Rattle.pgm.specs.Writing.{Wrote}
-use Rattle.pgm.proofs.WroteLaws.{fits-as, room-first, room-second, wrote-both, wrote-as}
+use Rattle.text.specs.Writing.{Wrote}
+use Rattle.text.proofs.WroteLaws.{fits-as, room-first, room-second, wrote-both, wrote-as}
 
 -- what follows the magic number: the end of its line, and the remark
 abbrev pub remarkPiece : ℕ → ℕ → List ℕ

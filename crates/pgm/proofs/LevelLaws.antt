@@ -7,8 +7,8 @@ use mathlib.Core.List.{List, [], _++_, append-assoc, append-nil}
 use lib.ListN.{length, take, drop, length-append, length-drop}
 use lib.Seq.{drop-drop, length-take-le}
 use Rattle.pgm.specs.PgmText.{frameRow, levelsText}
-use Rattle.pgm.specs.Writing.{Wrote}
-use Rattle.pgm.proofs.WroteLaws.{wrote-more, wrote-length, wrote-as, wrote-none}
+use Rattle.text.specs.Writing.{Wrote}
+use Rattle.text.proofs.WroteLaws.{wrote-more, wrote-length, wrote-as, wrote-none}
 
 pub record LevelsWriting (width height : ℕ) (levels : List ℕ) (at : ℕ) (buffer : List ℕ) (end from i : ℕ) (out : List ℕ) : Type 0 where
   pub text : List ℕ

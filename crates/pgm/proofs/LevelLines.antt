@@ -91,10 +91,6 @@ rest-lined begun {rest = n ∷ rest} u s (more l h) =
         lined-as (text-begins begun n rest e)
         (lined-more begun (digits n ++ levelRow (length (digits n)) rest) u s (next (digits-unbroken n) (short-number n l)))
 
--- the levels of a slice of 16-bit numbers
-pub small-of : (levels : List ℕ) → ((i : ℕ) → getD levels i 0 < 65536) → Small levels
-small-of levels h = every-of 0 levels (λ i l. h i)
-
 pub row-lined : {row : List ℕ} → Small row → Lined (frameRow row)
 unfolding frameRow
 row-lined none = lined-none

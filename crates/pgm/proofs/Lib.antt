@@ -1,4 +1,3 @@
-pub mod WroteLaws
 pub mod RowLaws
 pub mod SizeLaws
 pub mod LevelLaws

@@ -1,64 +1,16 @@
 -- What the loops that write keep, each with its start, its turn and its end: the text so far stands in the buffer, and with what is left it makes the whole.
-use Prim.Native.Nat.{ℕ, suc, _+_, _-_, _≤_, _<_}
+use Prim.Native.Nat.{ℕ, _+_, _-_, _≤_, _<_}
 use native.Mathlib.Numerals.{add-one}
 use native.Mathlib.Omega.{arith}
 use mathlib.Core.Path.{_≡_, refl, sym, ap, ap₂, _∙_}
 use mathlib.Core.Bool.{Bool, true, false, cond}
 use mathlib.Core.List.{List, [], _∷_, _++_, append-assoc}
-use lib.ListN.{length, getD, take, drop, set, length-append, length-set, drop-of-length-le}
-use lib.Seq.{paste, paste-zero, paste-suc, take-all, take-set-lt, take-suc-set, set-append-left, length-take-le, drop-cons}
+use lib.ListN.{length, getD, take, drop, set, length-append, drop-of-length-le}
+use lib.Seq.{take-all, drop-cons}
 use Rattle.decimal.specs.Numbers.{digits}
 use Rattle.pgm.specs.PgmText.{stays, parting, columnAfter, levelRow, frameRow}
-use Rattle.pgm.specs.Writing.{placed, Wrote}
-use Rattle.pgm.proofs.WroteLaws.{wrote-more, wrote-length, wrote-byte, wrote-as, wrote-none, wrote-both, fits-as, room-first, room-second}
-
--- copying a text
-pub record Copying (text : List ℕ) (at : ℕ) (buffer : List ℕ) (i : ℕ) (out : List ℕ) : Type 0 where
-  pub within : i ≤ length text
-  pub room : at + length text ≤ length buffer
-  pub size : length out ≡ length buffer
-  pub copied : out ≡ paste buffer at text i
-
-pub copying-start : (text : List ℕ) (at : ℕ) (buffer : List ℕ) → at + length text ≤ length buffer → Copying text at buffer 0 buffer
-copying-start text at buffer l = record { within = omega arith; room = l; size = refl; copied = paste-zero buffer at text }
-
-module _ {text : List ℕ} {at : ℕ} {buffer : List ℕ} {i : ℕ} {out : List ℕ} (h : Copying text at buffer i out) where
-  pub copying-turn : i < length text → Copying text at buffer (i + 1) (set out (at + i) (getD text i 0))
-  copying-turn l =
-      let r = h .room in
-      record {
-        within = omega arith;
-        room = h .room;
-        size = length-set out (at + i) (getD text i 0) ∙ h .size;
-        copied = ap (λ o. set o (at + i) (getD text i 0)) (h .copied) ∙ paste-suc buffer at text i 0 (omega arith) l ∙ ap (λ n. paste buffer at text n) (sym (add-one i));
-      }
-
-  pub copying-end : length text ≤ i → Wrote text at buffer out (at + i)
-  copying-end l =
-      let w = h .within in
-      let e : i ≡ length text = omega arith in
-      let f : paste buffer at text i ≡ placed text at buffer =
-      append-assoc (take at buffer) (take i text) (drop (at + i) buffer) ∙ ap₂ (λ front n. take at buffer ++ (front ++ drop (at + n) buffer)) (take-all i text l) e in
-      record { place = ap (λ n. at + n) e; stands = h .copied ∙ f }
-
--- a byte stored before a text that stands
-pub wrote-before : (byte : ℕ) (text : List ℕ) (at : ℕ) (a b : List ℕ) (n : ℕ) → at < length a → Wrote text (at + 1) a b n → Wrote (byte ∷ text) at a (set b at byte) n
-wrote-before byte text at a b n l p =
-    let e = p .place in
-    let tail = text ++ drop (at + 1 + length text) a in
-    let s : at < length (take (at + 1) a) = let t = length-take-le (at + 1) a (omega arith) in omega arith in
-    let front : set (take (at + 1) a) at byte ≡ take at a ++ (byte ∷ []) =
-    ap (λ k. set (take k a) at byte) (add-one at) ∙ sym (take-set-lt (suc at) a at byte (omega arith)) ∙ take-suc-set a at byte l in
-    let same : at + 1 + length text ≡ at + length (byte ∷ text) = omega arith in
-    record {
-      place = omega arith;
-      stands =
-          ap (λ o. set o at byte) (p .stands)
-          ∙ set-append-left (take (at + 1) a) tail at byte s
-          ∙ ap (λ f. f ++ tail) front
-          ∙ append-assoc (take at a) (byte ∷ []) tail
-          ∙ ap (λ k. take at a ++ (byte ∷ (text ++ drop k a))) same;
-    }
+use Rattle.text.specs.Writing.{Wrote}
+use Rattle.text.proofs.WroteLaws.{wrote-more, wrote-length, wrote-byte, wrote-before, wrote-as, wrote-none, wrote-both, fits-as, room-first, room-second}
 
 -- a level after what parts it from the number before
 pub wrote-parted : (level column at : ℕ) (a b : List ℕ) (n byte : ℕ) → at + 1 + length (digits level) ≤ length a → Wrote (digits level) (at + 1) a b n → byte ≡ parting column (n - at - 1) → Wrote (parting column (length (digits level)) ∷ digits level) at a (set b at byte) n

@@ -121,9 +121,6 @@ pub record Summing (levels : List ℕ) (sum i : ℕ) : Type 0 where
   pub whole : sum + levelsSize (drop i levels) ≡ levelsSize levels
   pub bounded : sum ≤ 6 * i
 
-pub summing-start : (levels : List ℕ) → Summing levels 0 0
-summing-start levels = record { within = omega arith; whole = omega arith; bounded = omega arith }
-
 module _ {levels : List ℕ} {sum i : ℕ} (h : Summing levels sum i) where
   pub summing-turn : (level count : ℕ) → i < length levels → (level ≡ getD levels i 0) × (level < 65536) → count ≡ length (digits level) → (count ≤ 5) × Summing levels (sum + (count + 1)) (i + 1)
   unfolding levelsSize

@@ -1,12 +1,13 @@
 -- The header and the levels after it, written from the front of a buffer, are the text.
 use Prim.Native.Nat.{ℕ, _+_, _*_, _≤_, _<_}
 use native.Mathlib.Omega.{arith}
-use mathlib.Core.Path.{_≡_, _∙_}
+use mathlib.Core.Path.{_≡_}
 use mathlib.Core.List.{List, _++_}
-use lib.ListN.{length, drop}
+use lib.ListN.{length}
 use Rattle.pgm.specs.PgmText.{headerText, plainMagic, levelsText, pgmText}
-use Rattle.pgm.specs.Writing.{Wrote, Picture}
-use Rattle.pgm.proofs.WroteLaws.{placed-first, room-first, room-second, wrote-both}
+use Rattle.text.specs.Writing.{begun, Wrote}
+use Rattle.pgm.specs.Writing.{Picture}
+use Rattle.text.proofs.WroteLaws.{wrote-front, room-first, room-second, wrote-both}
 
 module _ (width height maximum done due : ℕ) (levels buffer : List ℕ) (h : Picture width height maximum done due levels) (fits : length (pgmText width height maximum done due levels) ≤ length buffer) where
   room : 0 + length (headerText plainMagic done due width height maximum ++ levelsText width height levels) ≤ length buffer
@@ -20,9 +21,6 @@ module _ (width height maximum done due : ℕ) (levels buffer : List ℕ) (h : P
     pub text-levels : (0 < width) × ((length levels ≡ height * width) × (m + length (levelsText width height levels) ≤ length b))
     text-levels = (h .width-some, (h .size, room-second (headerText plainMagic done due width height maximum) (levelsText width height levels) 0 buffer room p))
 
-    pub text-wrote : {c : List ℕ} {n : ℕ} → Wrote (levelsText width height levels) m b c n → (n ≡ length (pgmText width height maximum done due levels)) × (c ≡ pgmText width height maximum done due levels ++ drop (length (pgmText width height maximum done due levels)) buffer)
+    pub text-wrote : {c : List ℕ} {n : ℕ} → Wrote (levelsText width height levels) m b c n → (n ≡ length (pgmText width height maximum done due levels)) × (c ≡ begun (pgmText width height maximum done due levels) buffer)
     unfolding pgmText
-    text-wrote q =
-        let w = wrote-both (headerText plainMagic done due width height maximum) (levelsText width height levels) 0 buffer room p q in
-        let e = w .place in
-        (omega arith, w .stands ∙ placed-first (headerText plainMagic done due width height maximum ++ levelsText width height levels) buffer)
+    text-wrote q = wrote-front (wrote-both (headerText plainMagic done due width height maximum) (levelsText width height levels) 0 buffer room p q)

@@ -2,10 +2,11 @@
 use Prim.Native.Nat.{ℕ, _+_, _*_, max}
 use mathlib.Core.Path.{_≡_}
 use mathlib.Core.Bool.{Bool, false, not, cond, _||_}
-use mathlib.Core.List.{List, [], _∷_, _++_}
+use mathlib.Core.List.{List, [], _∷_}
 use lib.Dec.{eqb, ltb}
-use lib.ListN.{length, drop}
+use lib.ListN.{length}
 use Rattle.basics.specs.Refusals.{Refusal, Answers}
+use Rattle.text.specs.Writing.{begun}
 use Rattle.run.specs.declared.Record.{Record}
 use Rattle.run.specs.Records.{isErosion, due, recordBad}
 use Rattle.run.specs.Continuing.{isDone}
@@ -30,4 +31,4 @@ pgmRefusals r levels out =
 -- the text's length, and the text at the front of the output, the rest as it was
 abbrev pub WritesPgm : Record → List ℕ → List ℕ → ℕ → ℕ × List ℕ → Type 0
 WritesPgm r levels out =
-    Answers (pgmRefusals r levels out) (0, out) (λ after. after ≡ (length (picture r levels), picture r levels ++ drop (length (picture r levels)) out))
+    Answers (pgmRefusals r levels out) (0, out) (λ after. after ≡ (length (picture r levels), begun (picture r levels) out))

@@ -1,19 +1,10 @@
--- What the functions that measure and write a text ask and leave behind.
+-- What the functions that measure and write a picture ask.
 use Prim.Native.Nat.{ℕ, _+_, _*_, _<_, _≤_}
 use mathlib.Core.Path.{_≡_}
-use mathlib.Core.List.{List, [], _∷_, _++_}
-use lib.ListN.{length, take, drop}
+use mathlib.Core.List.{List, [], _∷_}
+use lib.ListN.{length}
 use Rattle.decimal.specs.Numbers.{digits}
 use Rattle.pgm.specs.Lines.{Every}
-
--- a buffer in which a text stands from `at` on, all else as it was
-abbrev pub placed : List ℕ → ℕ → List ℕ → List ℕ
-placed text at buffer = take at buffer ++ (text ++ drop (at + length text) buffer)
-
--- the text was written, and `next` is the place after it
-pub record Wrote (text : List ℕ) (at : ℕ) (before after : List ℕ) (next : ℕ) : Type 0 where
-  pub place : next ≡ at + length text
-  pub stands : after ≡ placed text at before
 
 -- as many bytes as the digits of the levels, and one more for each
 unfoldable pub levelsSize : List ℕ → ℕ

@@ -4,32 +4,11 @@ pub mod finished;
 ghost use mathlib.Core.Path.{_≡_};
 ghost use mathlib.Core.List.{_∷_, [], _++_};
 ghost use Prim.Native.Nat.{_+_, _-_, _*_, _<_, _≤_};
-ghost use lib.ListN.{length, drop};
+ghost use lib.ListN.{length};
 ghost use Rattle.decimal.specs.Numbers.{digits};
 ghost use Rattle.pgm.specs.PgmText.{line, rowsRemark, headerText, stays, parting, columnAfter, levelRow, frameRow, levelsText, pgmText};
-ghost use Rattle.pgm.specs.Writing.{Wrote, levelsSize, SmallNumbers, Picture};
-
-// Copies `text` into `out` from `at` on. This and the functions below that write give the place after what they wrote.
-fn write_bytes(text: &[u8], out: &mut [u8], at: usize) -> usize
-    requires { ⌜ at + length (now text) ≤ length (now out) ⌝ }
-    ensures { λ r. ⌜ Wrote (now (text .entry)) at (now (out .entry)) (now (out .exit)) r ⌝ }
-{
-    let mut i = 0;
-    while i < text.len() {
-        out[at + i] = text[i];
-        i += 1;
-    }
-    at + i
-}
-
-// Writes `label` and a number after it.
-fn write_labelled(label: &[u8], n: usize, out: &mut [u8], at: usize) -> usize
-    requires { ⌜ at + length (now label ++ digits n) ≤ length (now out) ⌝ }
-    ensures { λ r. ⌜ Wrote (now (label .entry) ++ digits n) at (now (out .entry)) (now (out .exit)) r ⌝ }
-{
-    let next = write_bytes(label, out, at);
-    decimal::write_number(n, out, next)
-}
+ghost use Rattle.text.specs.Writing.{begun, Wrote};
+ghost use Rattle.pgm.specs.Writing.{levelsSize, SmallNumbers, Picture};
 
 // A level has 16 bits.
 fn wide(level: u16) -> usize
@@ -123,29 +102,13 @@ fn write_levels(width: usize, height: usize, levels: &[u16], out: &mut [u8], at:
     end
 }
 
-// Writes two labelled numbers.
-fn write_pair(
-    before: &[u8],
-    first: usize,
-    between: &[u8],
-    second: usize,
-    out: &mut [u8],
-    at: usize,
-) -> usize
-    requires { ⌜ at + length ((now before ++ digits first) ++ (now between ++ digits second)) ≤ length (now out) ⌝ }
-    ensures { λ r. ⌜ Wrote ((now (before .entry) ++ digits first) ++ (now (between .entry) ++ digits second)) at (now (out .entry)) (now (out .exit)) r ⌝ }
-{
-    let next = write_labelled(before, first, out, at);
-    write_labelled(between, second, out, next)
-}
-
 // Writes the magic number and the remark, whose line does not end yet.
 fn write_remark(magic: &[u8], done: usize, due: usize, out: &mut [u8], at: usize) -> usize
     requires { ⌜ at + length (line (now magic) ++ rowsRemark done due) ≤ length (now out) ⌝ }
     ensures { λ r. ⌜ Wrote (line (now (magic .entry)) ++ rowsRemark done due) at (now (out .entry)) (now (out .exit)) r ⌝ }
 {
-    let next = write_bytes(magic, out, at);
-    write_pair(b"\n# rows ", done, b" of ", due, out, next)
+    let next = text::write_bytes(magic, out, at);
+    text::write_pair(b"\n# rows ", done, b" of ", due, out, next)
 }
 
 // Ends a line, and writes the maximum in the next.
@@ -153,8 +116,8 @@ fn write_maximum(maximum: usize, out: &mut [u8], at: usize) -> usize
     requires { ⌜ at + length ((10 ∷ digits maximum) ++ (10 ∷ [])) ≤ length (now out) ⌝ }
     ensures { λ r. ⌜ Wrote ((10 ∷ digits maximum) ++ (10 ∷ [])) at (now (out .entry)) (now (out .exit)) r ⌝ }
 {
-    let next = write_labelled(b"\n", maximum, out, at);
-    write_bytes(b"\n", out, next)
+    let next = text::write_labelled(b"\n", maximum, out, at);
+    text::write_bytes(b"\n", out, next)
 }
 
 // Ends the remark's line, and writes the lines of the sides and the maximum.
@@ -162,7 +125,7 @@ fn write_sizes(width: usize, height: usize, maximum: usize, out: &mut [u8], at: 
     requires { ⌜ at + length (((10 ∷ digits width) ++ (32 ∷ digits height)) ++ ((10 ∷ digits maximum) ++ (10 ∷ []))) ≤ length (now out) ⌝ }
     ensures { λ r. ⌜ Wrote (((10 ∷ digits width) ++ (32 ∷ digits height)) ++ ((10 ∷ digits maximum) ++ (10 ∷ []))) at (now (out .entry)) (now (out .exit)) r ⌝ }
 {
-    let next = write_pair(b"\n", width, b" ", height, out, at);
+    let next = text::write_pair(b"\n", width, b" ", height, out, at);
     write_maximum(maximum, out, next)
 }
 
@@ -244,7 +207,7 @@ pub fn write_pgm_text(
     out: &mut [u8],
 ) -> usize
     requires { ⌜ (Picture width height maximum done due (now levels)) × (length (pgmText width height maximum done due (now levels)) ≤ length (now out)) ⌝ }
-    ensures { λ r. ⌜ (r ≡ length (pgmText width height maximum done due (now (levels .entry)))) × (now (out .exit) ≡ pgmText width height maximum done due (now (levels .entry)) ++ drop (length (pgmText width height maximum done due (now (levels .entry)))) (now (out .entry))) ⌝ }
+    ensures { λ r. ⌜ (r ≡ length (pgmText width height maximum done due (now (levels .entry)))) × (now (out .exit) ≡ begun (pgmText width height maximum done due (now (levels .entry))) (now (out .entry))) ⌝ }
 {
     let start = write_header(b"P2", done, due, width, height, maximum, out, 0);
     write_levels(width, height, levels, out, start)

@@ -14,10 +14,11 @@ use Rattle.basics.proofs.RefusalLaws.{first-both, passed}
 use Rattle.sheet.specs.Sheets.{rowBytes, frameRefusals}
 use Rattle.sheet.proofs.FrameLaws.{frame-sides}
 use Rattle.pbm.specs.Header.{Header, broken, whole, beginsP4, header}
-use Rattle.pbm.specs.Pbm.{begun, cleared, isBroken, frameOf, headerRefusals, rasterRefusals, readRefusals, readAnswer, ReadsPbm}
+use Rattle.text.specs.Writing.{begun}
+use Rattle.pbm.specs.Pbm.{cleared, isBroken, frameOf, headerRefusals, rasterRefusals, readRefusals, readAnswer, ReadsPbm}
 use Rattle.pbm.specs.Pbm as pbm
 use Rattle.pbm.proofs.PackingLaws.{length-cleared}
-use Rattle.pbm.proofs.BufferLaws.{length-begun, take-begun}
+use Rattle.text.proofs.WroteLaws.{length-begun, take-begun}
 use Rattle.pbm.proofs.LayoutLaws.{whole-layout}
 use Rattle.printing.specs.Printing.{refusedText, sheetText, rasterOf, fileRefusals, soundText, printed}
 use Rattle.printing.specs.Steps.{SoundSheet}

@@ -3,11 +3,12 @@ use Prim.Native.Nat.{ℕ, _*_, _≤_, _<_, max}
 use native.Mathlib.Nat.{mul-comm, mul-le-mul}
 use native.Mathlib.Omega.{arith}
 use mathlib.Core.Path.{_≡_, refl, sym, subst, _∙_}
-use mathlib.Core.List.{List, _++_}
+use mathlib.Core.List.{List}
 use lib.ListN.{length, getD, take, drop, length-append}
 use lib.Seq.{length-take-le, take-append-seam}
 use borrow.Author.Tests.{lt-ltb, le-ltb}
 use Rattle.basics.specs.Refusals.{first}
+use Rattle.text.specs.Writing.{begun}
 use Rattle.run.specs.declared.Record.{Record}
 use Rattle.run.specs.Records.{due}
 use Rattle.run.specs.Continuing.{withRows}
@@ -20,8 +21,9 @@ use Rattle.printing.proofs.CrossLaws.{done-sound, levels-length}
 use Rattle.printing.proofs.LevelBounds.{levels-bound, none-above, all-small}
 
 -- a text at the front of a buffer
-front-prints : (text rest : List ℕ) → Prints text (length text) (text ++ rest)
-front-prints text rest = let a = length-append text rest in (omega arith, take-append-seam text rest)
+front-prints : (text buffer : List ℕ) → Prints text (length text) (begun text buffer)
+unfolding begun
+front-prints text buffer = let a = length-append text (drop (length text) buffer) in (omega arith, take-append-seam text (drop (length text) buffer))
 
 pub prints-as : (size : ℕ) (buffer : List ℕ) {text other : List ℕ} → text ≡ other → Prints text size buffer → Prints other size buffer
 prints-as size buffer e p = (p .0, p .1 ∙ e)
@@ -65,7 +67,7 @@ module _ (width height : ℕ) (sheet : List ℕ) where
       prints-one : (number size : ℕ) (after : List ℕ) → WritesPgm whole levels out number (size, after) → Prints (sheetText width height sheet) size after
       prints-one number size after a =
           let q = a .accepted (a .refusal ∙ sym accepted) in
-          let p = front-prints (picture whole levels) (drop (length (picture whole levels)) out) in
+          let p = front-prints (picture whole levels) out in
           prints-as size after (few l) (subst (λ x. Prints (picture whole levels) (x .0) (x .1)) (sym q) p)
 
       pub picture-prints : (r : Record) (collected : List ℕ) → (r ≡ whole) × (collected ≡ levels) → (number size : ℕ) (after : List ℕ) → WritesPgm r collected out number (size, after) → Prints (sheetText width height sheet) size after

@@ -13,17 +13,8 @@ fn write_refused(number: usize, out: &mut [u8]) -> usize
     requires { ⌜ (number < 4294967296) × (98432 ≤ length (now out)) ⌝ }
     ensures { λ r. ⌜ Prints (refusedText number) r (now (out .exit)) ⌝ }
 {
-    out[0] = b'r';
-    out[1] = b'e';
-    out[2] = b'f';
-    out[3] = b'u';
-    out[4] = b's';
-    out[5] = b'e';
-    out[6] = b'd';
-    out[7] = b' ';
-    let end = decimal::write_number(number, out, 8);
-    out[end] = b'\n';
-    end + 1
+    let end = text::write_labelled(b"refused ", number, out, 0);
+    text::write_bytes(b"\n", out, end)
 }
 
 // Erodes a sheet with the cross, all rows at once, and collects its levels; gives the run's record.

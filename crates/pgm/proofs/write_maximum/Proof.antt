@@ -1,6 +1,6 @@
 -- The maximum, and the end of its line.
 use Rattle.decimal.specs.Numbers.{digits}
-use Rattle.pgm.proofs.WroteLaws.{room-first, room-second, wrote-both}
+use Rattle.text.proofs.WroteLaws.{room-first, room-second, wrote-both}
 use borrow.Author.Needs.{needs}
 use mathlib.Core.List.{[], _∷_}
 use Rattle.pgm.proofs.write_maximum.Statement.{statement}

@@ -1,5 +1,5 @@
 -- The digits stand first, and then the byte before them.
-use Rattle.pgm.proofs.WroteLaws.{wrote-number}
+use Rattle.text.proofs.WroteLaws.{wrote-number}
 use Rattle.pgm.proofs.RowLaws.{wrote-parted}
 use borrow.Author.Needs.{needs}
 use Prim.Native.Nat.{_+_}

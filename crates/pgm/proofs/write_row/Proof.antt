@@ -1,5 +1,5 @@
 -- The first number begins a line, and the rest follows it.
-use Rattle.pgm.proofs.WroteLaws.{wrote-number}
+use Rattle.text.proofs.WroteLaws.{wrote-number}
 use Rattle.pgm.proofs.RowLaws.{row-first, row-rest, row-wrote}
 use borrow.Author.Needs.{needs}
 use Rattle.pgm.proofs.write_row.Statement.{statement}

@@ -1,6 +1,6 @@
 -- The sides, and the maximum after them.
 use Rattle.pgm.proofs.HeaderLaws.{sidesPiece, maximumPiece}
-use Rattle.pgm.proofs.WroteLaws.{room-first, room-second, wrote-both}
+use Rattle.text.proofs.WroteLaws.{room-first, room-second, wrote-both}
 use borrow.Author.Needs.{needs}
 use Rattle.pgm.proofs.write_sizes.Statement.{statement}
 use Rattle.pgm.proofs.write_sizes.Tie as tie

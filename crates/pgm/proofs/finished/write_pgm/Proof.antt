@@ -4,8 +4,8 @@ use Rattle.pgm.specs.PgmText.{pgmText}
 use Rattle.pgm.proofs.FinishedLaws.{picture-refuses, picture-accepted, picture-accepts, sound-picture}
 use borrow.Author.Needs.{needs}
 use mathlib.Core.Path.{sym, ap, ap₂, _∙_}
-use mathlib.Core.List.{_++_}
-use lib.ListN.{length, drop}
+use lib.ListN.{length}
+use Rattle.text.specs.Writing.{begun}
 use Rattle.pgm.proofs.finished.write_pgm.Statement.{statement}
 use Rattle.pgm.proofs.finished.write_pgm.Tie as tie
 
@@ -39,7 +39,7 @@ returns-2 : tie.Need-returns-2
 returns-2 c =
     let e = ap₂ (λ m d. pgmText (c .before .before .before .before .before .before .before .before .before .before .before .args .run .width) (c .before .before .before .before .before .before .before .before .before .before .before .args .run .height) m (c .before .before .before .before .before .before .before .before .before .before .before .args .run .rows) d (c .before .before .before .before .before .before .before .before .before .before .before .args .levels .now)) (c .before .before .before .before .before .maximum-of .ensures .0) (c .before .before .before .before .rows-due .ensures .0) in
     let w = c .before .before .write-pgm-text .ensures in
-    picture-accepts (c .before .before .before .before .before .before .before .before .before .before .before .args .run) (c .before .before .before .before .before .before .before .before .before .before .before .args .levels .now) (c .before .before .before .before .before .before .before .before .before .before .before .args .out .now) (sym (c .before .before .before .before .before .before .before .pgm-refusal .ensures) ∙ c .before .before .before .before .before .before .if1 .left) (c .before .before .write-pgm-text .result) _ (w .0 ∙ ap length e) (w .1 ∙ ap (λ t. t ++ drop (length t) (c .before .before .before .before .before .before .before .before .before .before .before .args .out .now)) e)
+    picture-accepts (c .before .before .before .before .before .before .before .before .before .before .before .args .run) (c .before .before .before .before .before .before .before .before .before .before .before .args .levels .now) (c .before .before .before .before .before .before .before .before .before .before .before .args .out .now) (sym (c .before .before .before .before .before .before .before .pgm-refusal .ensures) ∙ c .before .before .before .before .before .before .if1 .left) (c .before .before .write-pgm-text .result) _ (w .0 ∙ ap length e) (w .1 ∙ ap (λ t. begun t (c .before .before .before .before .before .before .before .before .before .before .before .args .out .now)) e)
 
 pub write-pgm-spec : {M : Type 1} → statement M
 write-pgm-spec =

@@ -1,9 +1,9 @@
 -- The label, and the number after it.
 use Rattle.decimal.specs.Numbers.{digits}
-use Rattle.pgm.proofs.WroteLaws.{room-first, room-second, wrote-both, wrote-number}
+use Rattle.text.proofs.WroteLaws.{room-first, room-second, wrote-both, wrote-number}
 use borrow.Author.Needs.{needs}
-use Rattle.pgm.proofs.write_labelled.Statement.{statement}
-use Rattle.pgm.proofs.write_labelled.Tie as tie
+use Rattle.text.proofs.write_labelled.Statement.{statement}
+use Rattle.text.proofs.write_labelled.Tie as tie
 
 write-bytes-requires : tie.Need-write-bytes-requires
 write-bytes-requires c κs =

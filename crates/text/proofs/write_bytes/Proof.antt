@@ -1,10 +1,10 @@
 -- The text stands in the buffer byte by byte.
-use Rattle.pgm.proofs.RowLaws.{Copying, copying-start, copying-turn, copying-end}
+use Rattle.text.proofs.CopyLaws.{Copying, copying-start, copying-turn, copying-end}
 use borrow.Author.Needs.{needs}
 use Prim.Native.Nat.{_-_}
 use lib.ListN.{length}
-use Rattle.pgm.proofs.write_bytes.Statement.{statement}
-use Rattle.pgm.proofs.write_bytes.Tie as tie
+use Rattle.text.proofs.write_bytes.Statement.{statement}
+use Rattle.text.proofs.write_bytes.Tie as tie
 
 abbrev Inv-loop : tie.InvT-loop
 Inv-loop text out₀ at i₀ out i = Copying text at out₀ i out

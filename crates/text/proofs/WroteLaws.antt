@@ -1,14 +1,15 @@
 -- Texts written one after the other make one text: the second write leaves the first where it is, and both leave the rest of the buffer as it was.
-use Prim.Native.Nat.{ℕ, _+_, _≤_, _<_}
+use Prim.Native.Nat.{ℕ, suc, _+_, _-_, _≤_, _<_}
 use native.Mathlib.Nat.{add-zero}
 use native.Mathlib.Omega.{arith}
 use native.Mathlib.Numerals.{add-one}
 use mathlib.Core.Path.{_≡_, refl, sym, ap, ap₂, _∙_}
-use mathlib.Core.List.{List, [], _∷_, _++_, append-assoc}
-use lib.ListN.{length, take, drop, set, length-append, length-drop, take-append-drop}
-use lib.Seq.{length-take-le, take-at, drop-at, drop-drop, set-split}
+use mathlib.Core.List.{List, [], _∷_, _++_, append-nil, append-assoc}
+use lib.ListN.{length, take, drop, set, length-append, length-drop, take-append-drop, drop-of-length-le}
+use lib.Seq.{length-take-le, take-all, take-at, take-append-seam, drop-at, drop-drop, set-split, set-append-left, take-set-lt, take-suc-set}
+use borrow.Rule.Slice.PartMut.{putMid}
 use Rattle.decimal.specs.Numbers.{digits, written}
-use Rattle.pgm.specs.Writing.{placed, Wrote}
+use Rattle.text.specs.Writing.{begun, placed, Wrote}
 
 module _ (text : List ℕ) (at : ℕ) (buffer : List ℕ) (fits : at + length text ≤ length buffer) where
   front-length : length (take at buffer ++ text) ≡ at + length text
@@ -42,8 +43,21 @@ module _ (text : List ℕ) (at : ℕ) (buffer : List ℕ) (fits : at + length te
       ∙ ap (λ tail. take at buffer ++ tail) (sym (append-assoc text more (drop (at + length (text ++ more)) buffer)))
 
 -- from the front of the buffer
-pub placed-first : (text buffer : List ℕ) → placed text 0 buffer ≡ text ++ drop (length text) buffer
+placed-first : (text buffer : List ℕ) → placed text 0 buffer ≡ begun text buffer
+unfolding begun
 placed-first text buffer = ap (λ n. text ++ drop n buffer) (let e : 0 + length text ≡ length text = omega arith in e)
+
+pub wrote-front : {text a b : List ℕ} {n : ℕ} → Wrote text 0 a b n → (n ≡ length text) × (b ≡ begun text a)
+wrote-front {text} {a} p = let e = p .place in (omega arith, p .stands ∙ placed-first text a)
+
+module _ (text buffer : List ℕ) where
+  pub length-begun : length text ≤ length buffer → length (begun text buffer) ≡ length buffer
+  unfolding begun
+  length-begun l = let e = length-append text (drop (length text) buffer) in let d = length-drop (length text) buffer in omega arith
+
+  pub take-begun : take (length text) (begun text buffer) ≡ text
+  unfolding begun
+  take-begun = take-append-seam text (drop (length text) buffer)
 
 -- one text after the other
 pub wrote-more : (xs ys : List ℕ) (at : ℕ) (a b c : List ℕ) (m n : ℕ) → at + length xs ≤ length a → Wrote xs at a b m → Wrote ys m b c n → Wrote (xs ++ ys) at a c n
@@ -94,3 +108,36 @@ fits-as xs ys at room e l = let s = ap length e in omega arith
 
 pub wrote-as : {at n : ℕ} {a b : List ℕ} (xs ys : List ℕ) → xs ≡ ys → Wrote xs at a b n → Wrote ys at a b n
 wrote-as xs ys e p = rw (← e) p
+
+-- a byte stored before a text that stands
+pub wrote-before : (byte : ℕ) (text : List ℕ) (at : ℕ) (a b : List ℕ) (n : ℕ) → at < length a → Wrote text (at + 1) a b n → Wrote (byte ∷ text) at a (set b at byte) n
+wrote-before byte text at a b n l p =
+    let e = p .place in
+    let tail = text ++ drop (at + 1 + length text) a in
+    let s : at < length (take (at + 1) a) = let t = length-take-le (at + 1) a (omega arith) in omega arith in
+    let front : set (take (at + 1) a) at byte ≡ take at a ++ (byte ∷ []) =
+    ap (λ k. set (take k a) at byte) (add-one at) ∙ sym (take-set-lt (suc at) a at byte (omega arith)) ∙ take-suc-set a at byte l in
+    let same : at + 1 + length text ≡ at + length (byte ∷ text) = omega arith in
+    record {
+      place = omega arith;
+      stands =
+          ap (λ o. set o at byte) (p .stands)
+          ∙ set-append-left (take (at + 1) a) tail at byte s
+          ∙ ap (λ f. f ++ tail) front
+          ∙ append-assoc (take at a) (byte ∷ []) tail
+          ∙ ap (λ k. take at a ++ (byte ∷ (text ++ drop k a))) same;
+    }
+
+-- what is lent as `[at..]` is the list from there on
+pub part-is : (at : ℕ) (xs : List ℕ) → take (length xs - at) (drop at xs) ≡ drop at xs
+part-is at xs = let d = length-drop at xs in take-all (length xs - at) (drop at xs) (omega arith)
+
+-- a text at the front of the part that was lent stands at `at` in the whole
+pub wrote-part : (text part whole : List ℕ) (at : ℕ) → part ≡ begun text (take (length whole - at) (drop at whole)) → Wrote text at whole (putMid at (length whole - at) whole part) (at + length text)
+unfolding begun
+wrote-part text part whole at p =
+    let none : drop (length whole - at) (drop at whole) ≡ [] = let d = length-drop at whole in drop-of-length-le (drop at whole) (let l : length (drop at whole) ≤ length whole - at = omega arith in l) in
+    record {
+      place = refl;
+      stands = rw (none, append-nil, p, part-is at whole) (ap (λ rest. take at whole ++ (text ++ rest)) (drop-drop (length text) at whole));
+    }

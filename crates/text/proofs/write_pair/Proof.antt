@@ -1,10 +1,10 @@
 -- The first number, and the second after it.
 use Rattle.decimal.specs.Numbers.{digits}
-use Rattle.pgm.proofs.WroteLaws.{room-first, room-second, wrote-both}
+use Rattle.text.proofs.WroteLaws.{room-first, room-second, wrote-both}
 use borrow.Author.Needs.{needs}
 use mathlib.Core.List.{_++_}
-use Rattle.pgm.proofs.write_pair.Statement.{statement}
-use Rattle.pgm.proofs.write_pair.Tie as tie
+use Rattle.text.proofs.write_pair.Statement.{statement}
+use Rattle.text.proofs.write_pair.Tie as tie
 
 write-labelled-requires : tie.Need-write-labelled-requires
 write-labelled-requires c κs =
