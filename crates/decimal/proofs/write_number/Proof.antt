@@ -21,7 +21,10 @@ add-end : tie.Need-add-end Inv-loop μ-loop
 add-end c = search needs
 
 loop-holds : tie.Need-loop-holds Inv-loop μ-loop
-loop-holds c = let e = c .digit-count .ensures in writing-start (c .before .before .args .n) (c .before .before .args .at) (c .before .before .args .out .now) (c .before .before .args .at + c .digit-count .result) (omega arith) (omega arith)
+loop-holds c =
+    let args = c .before .before .args in
+    let e = c .digit-count .ensures in
+    writing-start (args .n) (args .at) (args .out .now) (args .at + c .digit-count .result) (omega arith) (omega arith)
 
 sub-i : tie.Need-sub-i Inv-loop μ-loop
 sub-i c = writing-room (c .before .loop .inv) (c .loop-test .taken) .0
@@ -45,7 +48,9 @@ slice-write-out-2 : tie.Need-slice-write-out-2 Inv-loop μ-loop
 slice-write-out-2 c = writing-first (c .before .before .loop .inv)
 
 same-length : tie.Need-same-length Inv-loop μ-loop
-same-length c = length-set (c .before .before .loop .out) (c .before .before .before .before .before .args .at) (c .digit-byte2 .result) ∙ c .before .before .loop .inv .size
+same-length c =
+    let loop = c .before .before .loop in
+    length-set (loop .out) (c .before .before .before .before .before .args .at) (c .digit-byte2 .result) ∙ loop .inv .size
 
 returns : tie.Need-returns Inv-loop μ-loop
 returns c = (omega arith, writing-end (c .before .before .loop .inv) (c .before .loop-test .left) (c .digit-byte2 .result) (c .digit-byte2 .ensures))

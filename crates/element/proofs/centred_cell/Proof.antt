@@ -33,24 +33,33 @@ returns-4 c = sym (cell-column-out _ _ _ _ (held-high _ _ (c .if4 .taken)))
 
 mul-result : tie.Need-mul-result
 mul-result c =
-    let b = side-bounds _ (c .before .before .before .before .pre .0) in
-    let s = square-entry _ _ _ (c .before .before .before .before .pre .0) (let l : c .before .before .before .before .args .row - (3 - (c .before .before .before .before .args .side - 1) / 2) < c .before .before .before .before .args .side = omega arith in l) (let l : c .before .before .before .before .args .col - (3 - (c .before .before .before .before .args .side - 1) / 2) < c .before .before .before .before .args .side = omega arith in l) in
+    let pre = c .before .before .before .before .pre in
+    let args = c .before .before .before .before .args in
+    let b = side-bounds _ (pre .0) in
+    let s = square-entry _ _ _ (pre .0) (let l : args .row - (3 - (args .side - 1) / 2) < args .side = omega arith in l) (let l : args .col - (3 - (args .side - 1) / 2) < args .side = omega arith in l) in
     omega arith
 
 add-result : tie.Need-add-result
 add-result c =
-    let b = side-bounds _ (c .before .before .before .before .pre .0) in
-    let s = square-entry _ _ _ (c .before .before .before .before .pre .0) (let l : c .before .before .before .before .args .row - (3 - (c .before .before .before .before .args .side - 1) / 2) < c .before .before .before .before .args .side = omega arith in l) (let l : c .before .before .before .before .args .col - (3 - (c .before .before .before .before .args .side - 1) / 2) < c .before .before .before .before .args .side = omega arith in l) in
+    let pre = c .before .before .before .before .pre in
+    let args = c .before .before .before .before .args in
+    let b = side-bounds _ (pre .0) in
+    let s = square-entry _ _ _ (pre .0) (let l : args .row - (3 - (args .side - 1) / 2) < args .side = omega arith in l) (let l : args .col - (3 - (args .side - 1) / 2) < args .side = omega arith in l) in
     omega arith
 
 shared-slice-read-result : tie.Need-shared-slice-read-result
 shared-slice-read-result c =
-    let b = side-bounds _ (c .before .before .before .before .before .pre .0) in
-    let s = square-entry _ _ _ (c .before .before .before .before .before .pre .0) (let l : c .before .before .before .before .before .args .row - (3 - (c .before .before .before .before .before .args .side - 1) / 2) < c .before .before .before .before .before .args .side = omega arith in l) (let l : c .before .before .before .before .before .args .col - (3 - (c .before .before .before .before .before .args .side - 1) / 2) < c .before .before .before .before .before .args .side = omega arith in l) in
+    let pre = c .before .before .before .before .before .pre in
+    let args = c .before .before .before .before .before .args in
+    let b = side-bounds _ (pre .0) in
+    let s = square-entry _ _ _ (pre .0) (let l : args .row - (3 - (args .side - 1) / 2) < args .side = omega arith in l) (let l : args .col - (3 - (args .side - 1) / 2) < args .side = omega arith in l) in
     omega arith
 
 returns-5 : tie.Need-returns-5
-returns-5 c = sym (cell-in _ _ _ _ (held-in _ _ (c .before .before .before .before .if1 .left) (c .before .before .before .if2 .left)) (held-in _ _ (c .before .before .if3 .left) (c .before .if4 .left)))
+returns-5 c =
+    let if1 = c .before .before .before .before .if1 in
+    let if2 = c .before .before .before .if2 in
+    sym (cell-in _ _ _ _ (held-in _ _ (if1 .left) (if2 .left)) (held-in _ _ (c .before .before .if3 .left) (c .before .if4 .left)))
 
 pub centred-cell-spec : {M : Type 1} → statement M
 centred-cell-spec =

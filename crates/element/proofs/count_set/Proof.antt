@@ -35,7 +35,8 @@ loop-less c = omega arith
 
 loop-again : tie.Need-loop-again Inv-loop μ-loop
 loop-again c =
-    let n = count-next (c .before .before .before .before .before .args .bytes .now) (c .before .before .before .loop .i) (c .before .before .loop-test .taken) in
+    let loop = c .before .before .before .loop in
+    let n = count-next (c .before .before .before .before .before .args .bytes .now) (loop .i) (c .before .before .loop-test .taken) in
     let e = c .one-if-set .ensures in
     omega arith
 

@@ -41,16 +41,22 @@ loop-less c = search needs
 
 loop-again : tie.Need-loop-again Inv-loop μ-loop
 loop-again c =
-    let l : c .before .before .loop .k < c .before .before .before .args .side * c .before .before .before .args .side = omega arith in
-    filling-turn _ _ _ _ _ (c .before .before .loop .inv) l
-    (ap (λ n. getD (c .before .before .before .args .bytes .now) (n - 1 - c .before .before .loop .k) 0) (c .before .before .before .pre .1 .0) ∙ reflected-entry (c .before .before .before .args .side) (c .before .before .before .args .bytes .now) (c .before .before .loop .k) l)
+    let args = c .before .before .before .args in
+    let pre = c .before .before .before .pre in
+    let loop = c .before .before .loop in
+    let l : loop .k < args .side * args .side = omega arith in
+    filling-turn _ _ _ _ _ (loop .inv) l
+    (ap (λ n. getD (args .bytes .now) (n - 1 - loop .k) 0) (pre .1 .0) ∙ reflected-entry (args .side) (args .bytes .now) (loop .k) l)
 
 same-length : tie.Need-same-length Inv-loop μ-loop
 same-length c = search needs
 
 returns : tie.Need-returns Inv-loop μ-loop
 unfolding reflectedBytes raster
-returns c = filling-end _ _ _ _ (c .before .loop .inv) (let l : c .before .before .args .side * c .before .before .args .side ≤ c .before .loop .k = omega arith in l)
+returns c =
+    let args = c .before .before .args in
+    let loop = c .before .loop in
+    filling-end _ _ _ _ (loop .inv) (let l : args .side * args .side ≤ loop .k = omega arith in l)
 
 pub fill-reflected-spec : {M : Type 1} → statement M
 fill-reflected-spec =

@@ -42,7 +42,9 @@ array-share-prefix-out : tie.Need-array-share-prefix-out
 array-share-prefix-out c = search needs
 
 slice-aggregate-write-all : tie.Need-slice-aggregate-write-all
-slice-aggregate-write-all c = sym (length-take-le (c .before .before .before .before .before .print-erosion .result) (c .before .before .before .before .before .print-erosion .last .1 .1 .1 .1 .0) (c .before .before .before .before .before .print-erosion .ensures .0))
+slice-aggregate-write-all c =
+    let print-erosion = c .before .before .before .before .before .print-erosion in
+    sym (length-take-le (print-erosion .result) (print-erosion .last .1 .1 .1 .1 .0) (print-erosion .ensures .0))
 
 write-all-requires : tie.Need-write-all-requires
 write-all-requires c κs = search needs

@@ -8,13 +8,21 @@ start-dilation-requires : tie.Need-start-dilation-requires
 start-dilation-requires c κs = search needs
 
 finish-requires : tie.Need-finish-requires
-finish-requires c κs = dilation-fresh (c .before .before .before .before .before .before .before .before .before .args .width) (c .before .before .before .before .before .before .before .before .before .args .height) (c .before .before .before .before .before .before .before .before .before .args .sheet .now) (c .before .before .before .before .before .before .before .before .before .args .side) (c .before .before .before .before .before .before .before .before .before .args .bytes .now) (c .before .before .before .before .before .before .before .before .before .args .cap) (c .before .before .before .before .before .before .before .before .before .args .levels .now) (c .before .before .before .before .before .before .before .before .before .pre) (c .before .before .before .before .start-dilation .ensures)
+finish-requires c κs =
+    let args = c .before .before .before .before .before .before .before .before .before .args in
+    let pre = c .before .before .before .before .before .before .before .before .before .pre in
+    let start-dilation = c .before .before .before .before .start-dilation in
+    dilation-fresh (args .width) (args .height) (args .sheet .now) (args .side) (args .bytes .now) (args .cap) (args .levels .now) pre (start-dilation .ensures)
 
 same-length : tie.Need-same-length
 same-length c = search needs
 
 returns : tie.Need-returns
-returns c = dilation-given (c .before .before .before .before .before .before .before .before .before .before .before .before .args .width) (c .before .before .before .before .before .before .before .before .before .before .before .before .args .height) (c .before .before .before .before .before .before .before .before .before .before .before .before .args .sheet .now) (c .before .before .before .before .before .before .before .before .before .before .before .before .args .side) (c .before .before .before .before .before .before .before .before .before .before .before .before .args .bytes .now) (c .before .before .before .before .before .before .before .before .before .before .before .before .args .cap) (c .before .before .before .before .before .before .before .before .before .before .before .before .args .levels .now) (c .before .before .before .before .before .before .before .before .before .before .before .before .pre) (c .before .before .before .before .before .before .before .start-dilation .ensures) (c .before .before .finish .ensures)
+returns c =
+    let args = c .before .before .before .before .before .before .before .before .before .before .before .before .args in
+    let pre = c .before .before .before .before .before .before .before .before .before .before .before .before .pre in
+    let start-dilation = c .before .before .before .before .before .before .before .start-dilation in
+    dilation-given (args .width) (args .height) (args .sheet .now) (args .side) (args .bytes .now) (args .cap) (args .levels .now) pre (start-dilation .ensures) (c .before .before .finish .ensures)
 
 pub dilated-run-spec : {M : Type 1} → statement M
 dilated-run-spec = tie.close (tie.spec start-dilation-requires finish-requires same-length returns)

@@ -19,13 +19,20 @@ row-bytes-requires : tie.Need-row-bytes-requires Inv-loop μ-loop
 row-bytes-requires c κs = search needs
 
 mul-count : tie.Need-mul-count Inv-loop μ-loop
-mul-count c = let s = raster-small (c .before .before .before .args .width) (c .before .before .before .args .height) (c .before .before .before .pre .0) (c .before .before .before .pre .1 .0) in let e = ap (λ n. c .before .before .before .args .height * n) (c .row-bytes .ensures) in omega arith
+mul-count c =
+    let args = c .before .before .before .args in
+    let pre = c .before .before .before .pre in
+    let s = raster-small (args .width) (args .height) (pre .0) (pre .1 .0) in
+    let e = ap (λ n. args .height * n) (c .row-bytes .ensures) in omega arith
 
 padding-weight-requires : tie.Need-padding-weight-requires Inv-loop μ-loop
 padding-weight-requires c κs = search needs
 
 loop-holds : tie.Need-loop-holds Inv-loop μ-loop
-loop-holds c = clearing-start (ready (c .before .before .before .before .args .raster .now) (c .before .before .before .before .args .out .now) (c .before .row-bytes .ensures) (c .padding-weight .ensures) (c .before .before .before .before .pre .1 .1 .0) (c .before .before .before .before .pre .1 .1 .1))
+loop-holds c =
+    let args = c .before .before .before .before .args in
+    let pre = c .before .before .before .before .pre in
+    clearing-start (ready (args .raster .now) (args .out .now) (c .before .row-bytes .ensures) (c .padding-weight .ensures) (pre .1 .1 .0) (pre .1 .1 .1))
 
 shared-slice-read-cleared-byte : tie.Need-shared-slice-read-cleared-byte Inv-loop μ-loop
 shared-slice-read-cleared-byte c = read-room (c .before .before .loop .inv) (c .before .loop-test .taken)
@@ -47,8 +54,11 @@ loop-less c = omega arith
 
 loop-again : tie.Need-loop-again Inv-loop μ-loop
 loop-again c =
-    let b = c .before .before .shared-slice-known2 .given (c .before .before .before .before .loop .k) in
-    clearing-turn (c .before .before .before .before .loop .inv) (c .before .before .before .loop-test .taken) (getD (c .before .before .before .before .before .before .before .before .before .args .raster .now) (c .before .before .before .before .loop .k) 0) (c .before .cleared-byte .result) (c .left-after .result) refl (omega arith) (c .before .cleared-byte .ensures) (c .left-after .ensures)
+    let loop = c .before .before .before .before .loop in
+    let loop-test = c .before .before .before .loop-test in
+    let cleared-byte = c .before .cleared-byte in
+    let b = c .before .before .shared-slice-known2 .given (loop .k) in
+    clearing-turn (loop .inv) (loop-test .taken) (getD (c .before .before .before .before .before .before .before .before .before .args .raster .now) (loop .k) 0) (cleared-byte .result) (c .left-after .result) refl (omega arith) (cleared-byte .ensures) (c .left-after .ensures)
 
 same-length : tie.Need-same-length Inv-loop μ-loop
 same-length c = clearing-length (c .before .loop .inv)

@@ -18,7 +18,9 @@ is-white-requires : tie.Need-is-white-requires
 is-white-requires c κs = search needs
 
 returns-2 : tie.Need-returns-2
-returns-2 c = c .is-white .ensures ∙ run-there isWhite (c .before .before .before .before .args .file .now) (c .before .before .before .before .args .at) (omega arith)
+returns-2 c =
+    let args = c .before .before .before .before .args in
+    c .is-white .ensures ∙ run-there isWhite (args .file .now) (args .at) (omega arith)
 
 pub is-white-at-spec : {M : Type 1} → statement M
 is-white-at-spec = tie.close (tie.spec returns shared-slice-read-byte is-white-requires returns-2)

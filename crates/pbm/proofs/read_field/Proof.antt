@@ -9,16 +9,32 @@ skip-white-requires : tie.Need-skip-white-requires
 skip-white-requires c κs = search needs
 
 returns : tie.Need-returns
-returns c = field-lost (c .before .before .before .args .file .now) (c .before .before .before .args .at) (field-without-white (c .before .before .before .args .file .now) (c .before .before .before .args .at) (c .before .skip-white .result) (c .before .skip-white .ensures) (c .if1 .taken))
+returns c =
+    let args = c .before .before .before .args in
+    let skip-white = c .before .skip-white in
+    field-lost (args .file .now) (args .at) (field-without-white (args .file .now) (args .at) (skip-white .result) (skip-white .ensures) (c .if1 .taken))
 
 read-number-requires : tie.Need-read-number-requires
-read-number-requires c κs = (start-within (c .before .before .before .args .file .now) (c .before .before .before .args .at) (c .before .skip-white .result) (c .before .skip-white .ensures) (c .before .before .before .pre), omega arith)
+read-number-requires c κs =
+    let args = c .before .before .before .args in
+    let pre = c .before .before .before .pre in
+    let skip-white = c .before .skip-white in
+    (start-within (args .file .now) (args .at) (skip-white .result) (skip-white .ensures) pre, omega arith)
 
 returns-2 : tie.Need-returns-2
-returns-2 c = field-lost (c .before .before .before .before .before .args .file .now) (c .before .before .before .before .before .args .at) (field-without-digits (c .before .before .before .before .before .args .file .now) (c .before .before .before .before .before .args .at) (c .before .before .before .skip-white .result) (c .before .before .before .skip-white .ensures) (c .before .read-number .result .next) (c .before .read-number .ensures .0) (c .before .before .if1 .left) (c .if2 .taken))
+returns-2 c =
+    let args = c .before .before .before .before .before .args in
+    let skip-white = c .before .before .before .skip-white in
+    let read-number = c .before .read-number in
+    field-lost (args .file .now) (args .at) (field-without-digits (args .file .now) (args .at) (skip-white .result) (skip-white .ensures) (read-number .result .next) (read-number .ensures .0) (c .before .before .if1 .left) (c .if2 .taken))
 
 returns-3 : tie.Need-returns-3
-returns-3 c = field-found (c .before .before .before .before .before .args .file .now) (c .before .before .before .before .before .args .at) (c .before .before .before .skip-white .result) (c .before .before .before .skip-white .ensures) (c .before .read-number .result .next) (c .before .read-number .ensures .0) (c .before .read-number .result .value) (start-within (c .before .before .before .before .before .args .file .now) (c .before .before .before .before .before .args .at) (c .before .before .before .skip-white .result) (c .before .before .before .skip-white .ensures) (c .before .before .before .before .before .pre)) (c .before .before .if1 .left) (c .if2 .left) (c .before .read-number .ensures .1)
+returns-3 c =
+    let args = c .before .before .before .before .before .args in
+    let pre = c .before .before .before .before .before .pre in
+    let skip-white = c .before .before .before .skip-white in
+    let read-number = c .before .read-number in
+    field-found (args .file .now) (args .at) (skip-white .result) (skip-white .ensures) (read-number .result .next) (read-number .ensures .0) (read-number .result .value) (start-within (args .file .now) (args .at) (skip-white .result) (skip-white .ensures) pre) (c .before .before .if1 .left) (c .if2 .left) (read-number .ensures .1)
 
 pub read-field-spec : {M : Type 1} → statement M
 read-field-spec =

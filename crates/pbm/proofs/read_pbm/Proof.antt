@@ -8,48 +8,91 @@ read-header-requires : tie.Need-read-header-requires
 read-header-requires c κs = search needs
 
 returns : tie.Need-returns
-returns c = header-refuses (c .before .before .before .before .args .file .now) (c .before .before .before .before .args .out .now) (c .before .read-header .ensures) (c .if1 .taken)
+returns c =
+    let args = c .before .before .before .before .args in
+    header-refuses (args .file .now) (args .out .now) (c .before .read-header .ensures) (c .if1 .taken)
 
 sub-raster-refusal : tie.Need-sub-raster-refusal
-sub-raster-refusal c = at-within (c .before .before .before .before .args .file .now) (c .before .before .before .before .args .out .now) (c .before .read-header .ensures) (c .if1 .left)
+sub-raster-refusal c =
+    let args = c .before .before .before .before .args in
+    at-within (args .file .now) (args .out .now) (c .before .read-header .ensures) (c .if1 .left)
 
 part-raster-refusal-start : tie.Need-part-raster-refusal-start
-part-raster-refusal-start c = at-within (c .before .before .before .before .args .file .now) (c .before .before .before .before .args .out .now) (c .before .read-header .ensures) (c .if1 .left)
+part-raster-refusal-start c =
+    let args = c .before .before .before .before .args in
+    at-within (args .file .now) (args .out .now) (c .before .read-header .ensures) (c .if1 .left)
 
 part-raster-refusal-end : tie.Need-part-raster-refusal-end
 part-raster-refusal-end c = search needs
 
 raster-refusal-requires : tie.Need-raster-refusal-requires
-raster-refusal-requires c κs = frame-in (c .before .before .before .before .before .args .file .now) (c .before .before .before .before .before .args .out .now) (c .before .before .read-header .ensures) (c .before .if1 .left)
+raster-refusal-requires c κs =
+    let args = c .before .before .before .before .before .args in
+    frame-in (args .file .now) (args .out .now) (c .before .before .read-header .ensures) (c .before .if1 .left)
 
 returns-2 : tie.Need-returns-2
-returns-2 c = raster-refuses (c .before .before .before .before .before .before .before .args .file .now) (c .before .before .before .before .before .before .before .args .out .now) (c .before .before .before .before .read-header .ensures) (c .before .before .before .if1 .left) (c .before .raster-refusal .result) (c .before .raster-refusal .ensures) (c .if2 .taken)
+returns-2 c =
+    let args = c .before .before .before .before .before .before .before .args in
+    let read-header = c .before .before .before .before .read-header in
+    let if1 = c .before .before .before .if1 in
+    let raster-refusal = c .before .raster-refusal in
+    raster-refuses (args .file .now) (args .out .now) (read-header .ensures) (if1 .left) (raster-refusal .result) (raster-refusal .ensures) (c .if2 .taken)
 
 sub-if3 : tie.Need-sub-if3
-sub-if3 c = at-within (c .before .before .before .before .before .before .before .args .file .now) (c .before .before .before .before .before .before .before .args .out .now) (c .before .before .before .before .read-header .ensures) (c .before .before .before .if1 .left)
+sub-if3 c =
+    let args = c .before .before .before .before .before .before .before .args in
+    let read-header = c .before .before .before .before .read-header in
+    let if1 = c .before .before .before .if1 in
+    at-within (args .file .now) (args .out .now) (read-header .ensures) (if1 .left)
 
 returns-3 : tie.Need-returns-3
-returns-3 c = room-refuses (c .before .before .before .before .before .before .before .before .args .file .now) (c .before .before .before .before .before .before .before .before .args .out .now) (c .before .before .before .before .before .read-header .ensures) (c .before .before .before .before .if1 .left) (c .before .before .raster-refusal .result) (c .before .before .raster-refusal .ensures) (c .before .if2 .left) (c .if3 .taken)
+returns-3 c =
+    let args = c .before .before .before .before .before .before .before .before .args in
+    let read-header = c .before .before .before .before .before .read-header in
+    let if1 = c .before .before .before .before .if1 in
+    let raster-refusal = c .before .before .raster-refusal in
+    room-refuses (args .file .now) (args .out .now) (read-header .ensures) (if1 .left) (raster-refusal .result) (raster-refusal .ensures) (c .before .if2 .left) (c .if3 .taken)
 
 sub-copy-cleared : tie.Need-sub-copy-cleared
-sub-copy-cleared c = at-within (c .before .before .before .before .before .before .before .before .args .file .now) (c .before .before .before .before .before .before .before .before .args .out .now) (c .before .before .before .before .before .read-header .ensures) (c .before .before .before .before .if1 .left)
+sub-copy-cleared c =
+    let args = c .before .before .before .before .before .before .before .before .args in
+    let read-header = c .before .before .before .before .before .read-header in
+    let if1 = c .before .before .before .before .if1 in
+    at-within (args .file .now) (args .out .now) (read-header .ensures) (if1 .left)
 
 part-copy-cleared-start : tie.Need-part-copy-cleared-start
-part-copy-cleared-start c = at-within (c .before .before .before .before .before .before .before .before .args .file .now) (c .before .before .before .before .before .before .before .before .args .out .now) (c .before .before .before .before .before .read-header .ensures) (c .before .before .before .before .if1 .left)
+part-copy-cleared-start c =
+    let args = c .before .before .before .before .before .before .before .before .args in
+    let read-header = c .before .before .before .before .before .read-header in
+    let if1 = c .before .before .before .before .if1 in
+    at-within (args .file .now) (args .out .now) (read-header .ensures) (if1 .left)
 
 part-copy-cleared-end : tie.Need-part-copy-cleared-end
 part-copy-cleared-end c = search needs
 
 copy-cleared-requires : tie.Need-copy-cleared-requires
 copy-cleared-requires c κs =
-    let f = frame-in (c .before .before .before .before .before .before .before .before .before .before .args .file .now) (c .before .before .before .before .before .before .before .before .before .before .args .out .now) (c .before .before .before .before .before .before .before .read-header .ensures) (c .before .before .before .before .before .before .if1 .left) in
-    (f .0, (f .1, (copy-there (c .before .before .before .before .before .before .before .before .before .before .args .file .now) (c .before .before .before .before .before .before .before .before .before .before .args .out .now) (c .before .before .before .before .before .before .before .read-header .ensures) (c .before .before .before .before .before .before .if1 .left) (c .before .before .before .before .raster-refusal .result) (c .before .before .before .before .raster-refusal .ensures) (c .before .before .before .if2 .left), copy-room (c .before .before .before .before .before .before .before .before .before .before .args .file .now) (c .before .before .before .before .before .before .before .before .before .before .args .out .now) (c .before .before .before .before .before .before .before .read-header .ensures) (c .before .before .before .before .before .before .if1 .left) (c .before .before .before .before .raster-refusal .result) (c .before .before .before .before .raster-refusal .ensures) (c .before .before .before .if2 .left) (c .before .before .if3 .left))))
+    let args = c .before .before .before .before .before .before .before .before .before .before .args in
+    let read-header = c .before .before .before .before .before .before .before .read-header in
+    let if1 = c .before .before .before .before .before .before .if1 in
+    let raster-refusal = c .before .before .before .before .raster-refusal in
+    let if2 = c .before .before .before .if2 in
+    let f = frame-in (args .file .now) (args .out .now) (read-header .ensures) (if1 .left) in
+    (f .0, (f .1, (copy-there (args .file .now) (args .out .now) (read-header .ensures) (if1 .left) (raster-refusal .result) (raster-refusal .ensures) (if2 .left), copy-room (args .file .now) (args .out .now) (read-header .ensures) (if1 .left) (raster-refusal .result) (raster-refusal .ensures) (if2 .left) (c .before .before .if3 .left))))
 
 same-length : tie.Need-same-length
 same-length c = search needs
 
 returns-4 : tie.Need-returns-4
-returns-4 c = read-accepts (c .before .before .before .before .before .before .before .before .before .before .before .before .before .args .file .now) (c .before .before .before .before .before .before .before .before .before .before .before .before .before .args .out .now) (c .before .before .before .before .before .before .before .before .before .before .read-header .ensures) (c .before .before .before .before .before .before .before .before .before .if1 .left) (c .before .before .before .before .before .before .before .raster-refusal .result) (c .before .before .before .before .before .before .before .raster-refusal .ensures) (c .before .before .before .before .before .before .if2 .left) (c .before .before .before .before .before .if3 .left) (c .before .before .copy-cleared .last .1 .1 .1 .0) (c .before .before .copy-cleared .ensures)
+returns-4 c =
+    let args = c .before .before .before .before .before .before .before .before .before .before .before .before .before .args in
+    let read-header = c .before .before .before .before .before .before .before .before .before .before .read-header in
+    let if1 = c .before .before .before .before .before .before .before .before .before .if1 in
+    let raster-refusal = c .before .before .before .before .before .before .before .raster-refusal in
+    let if2 = c .before .before .before .before .before .before .if2 in
+    let if3 = c .before .before .before .before .before .if3 in
+    let copy-cleared = c .before .before .copy-cleared in
+    read-accepts (args .file .now) (args .out .now) (read-header .ensures) (if1 .left) (raster-refusal .result) (raster-refusal .ensures) (if2 .left) (if3 .left) (copy-cleared .last .1 .1 .1 .0) (copy-cleared .ensures)
 
 pub read-pbm-spec : {M : Type 1} → statement M
 read-pbm-spec =

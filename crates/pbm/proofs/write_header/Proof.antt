@@ -28,8 +28,10 @@ same-length c = search needs
 
 returns : tie.Need-returns
 returns c =
-    let start = c .before .before .before .before .before .before .before .before .before .before .before .before in
-    header-wrote (start .args .width) (start .args .height) (start .args .out .now) (start .pre) (c .before .before .before .before .before .before .before .write-pair .ensures) (c .before .before .write-bytes .ensures)
+    let args = c .before .before .before .before .before .before .before .before .before .before .before .before .args in
+    let pre = c .before .before .before .before .before .before .before .before .before .before .before .before .pre in
+    let write-pair = c .before .before .before .before .before .before .before .write-pair in
+    header-wrote (args .width) (args .height) (args .out .now) pre (write-pair .ensures) (c .before .before .write-bytes .ensures)
 
 pub write-header-spec : {M : Type 1} → statement M
 write-header-spec =

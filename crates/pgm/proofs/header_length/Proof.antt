@@ -37,8 +37,8 @@ add-result-5 c = let b = header-bound _ _ _ _ _ (c .before .before .before .befo
 
 returns : tie.Need-returns
 returns c =
-    let start = c .before .before .before .before .before .before in
-    let s = header-size (start .args .magic .now) (start .args .done) (start .args .due) (start .args .width) (start .args .height) (start .args .maximum) in omega arith
+    let args = c .before .before .before .before .before .before .args in
+    let s = header-size (args .magic .now) (args .done) (args .due) (args .width) (args .height) (args .maximum) in omega arith
 
 pub header-length-spec : {M : Type 1} → statement M
 header-length-spec =

@@ -29,12 +29,21 @@ digit-count-requires : tie.Need-digit-count-requires Inv-loop μ-loop
 digit-count-requires c κs = search needs
 
 add-sum : tie.Need-add-sum Inv-loop μ-loop
-add-sum c = let t = summing-turn (c .before .before .before .before .loop .inv) (c .before .wide .result) (c .digit-count .result) (c .before .before .before .loop-test .taken) (c .before .wide .ensures) (c .digit-count .ensures) .0 in omega arith
+add-sum c =
+    let loop = c .before .before .before .before .loop in
+    let loop-test = c .before .before .before .loop-test in
+    let wide = c .before .wide in
+    let t = summing-turn (loop .inv) (wide .result) (c .digit-count .result) (loop-test .taken) (wide .ensures) (c .digit-count .ensures) .0 in
+    omega arith
 
 add-sum-2 : tie.Need-add-sum-2 Inv-loop μ-loop
 add-sum-2 c =
-    let turn = c .before .before .before .before .loop in
-    let t = summing-turn (turn .inv) (c .before .wide .result) (c .digit-count .result) (c .before .before .before .loop-test .taken) (c .before .wide .ensures) (c .digit-count .ensures) .0 in let b = c .before .before .before .before .loop .inv .bounded in omega arith
+    let loop = c .before .before .before .before .loop in
+    let loop-test = c .before .before .before .loop-test in
+    let wide = c .before .wide in
+    let turn = loop in
+    let t = summing-turn (turn .inv) (wide .result) (c .digit-count .result) (loop-test .taken) (wide .ensures) (c .digit-count .ensures) .0 in
+    let b = loop .inv .bounded in omega arith
 
 add-i : tie.Need-add-i Inv-loop μ-loop
 add-i c = search needs
@@ -43,7 +52,11 @@ loop-less : tie.Need-loop-less Inv-loop μ-loop
 loop-less c = search needs
 
 loop-again : tie.Need-loop-again Inv-loop μ-loop
-loop-again c = summing-turn (c .before .before .before .before .loop .inv) (c .before .wide .result) (c .digit-count .result) (c .before .before .before .loop-test .taken) (c .before .wide .ensures) (c .digit-count .ensures) .1
+loop-again c =
+    let loop = c .before .before .before .before .loop in
+    let loop-test = c .before .before .before .loop-test in
+    let wide = c .before .wide in
+    summing-turn (loop .inv) (wide .result) (c .digit-count .result) (loop-test .taken) (wide .ensures) (c .digit-count .ensures) .1
 
 returns : tie.Need-returns Inv-loop μ-loop
 returns c = let b = c .before .loop .inv .bounded in (summing-end (c .before .loop .inv) (c .loop-test .left), omega arith)

@@ -6,21 +6,26 @@ use Rattle.pgm.proofs.write_header.Tie as tie
 
 write-remark-requires : tie.Need-write-remark-requires
 write-remark-requires c κs =
-    let start = c .before .before .before in
-    header-first (start .args .magic .now) (start .args .done) (start .args .due) (start .args .width) (start .args .height) (start .args .maximum) (start .args .at) (start .args .out .now) (start .pre)
+    let args = c .before .before .before .args in
+    let pre = c .before .before .before .pre in
+    header-first (args .magic .now) (args .done) (args .due) (args .width) (args .height) (args .maximum) (args .at) (args .out .now) pre
 
 write-sizes-requires : tie.Need-write-sizes-requires
 write-sizes-requires c κs =
-    let start = c .before .before .before .before .before .before .before in
-    header-second (start .args .magic .now) (start .args .done) (start .args .due) (start .args .width) (start .args .height) (start .args .maximum) (start .args .at) (start .args .out .now) (start .pre) (c .before .before .before .write-remark .ensures)
+    let args = c .before .before .before .before .before .before .before .args in
+    let pre = c .before .before .before .before .before .before .before .pre in
+    let write-remark = c .before .before .before .write-remark in
+    header-second (args .magic .now) (args .done) (args .due) (args .width) (args .height) (args .maximum) (args .at) (args .out .now) pre (write-remark .ensures)
 
 same-length : tie.Need-same-length
 same-length c = search needs
 
 returns : tie.Need-returns
 returns c =
-    let start = c .before .before .before .before .before .before .before .before .before .before in
-    header-wrote (start .args .magic .now) (start .args .done) (start .args .due) (start .args .width) (start .args .height) (start .args .maximum) (start .args .at) (start .args .out .now) (start .pre) (c .before .before .before .before .before .before .write-remark .ensures) (c .before .before .write-sizes .ensures)
+    let args = c .before .before .before .before .before .before .before .before .before .before .args in
+    let pre = c .before .before .before .before .before .before .before .before .before .before .pre in
+    let write-remark = c .before .before .before .before .before .before .write-remark in
+    header-wrote (args .magic .now) (args .done) (args .due) (args .width) (args .height) (args .maximum) (args .at) (args .out .now) pre (write-remark .ensures) (c .before .before .write-sizes .ensures)
 
 pub write-header-spec : {M : Type 1} → statement M
 write-header-spec =

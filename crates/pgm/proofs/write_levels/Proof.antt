@@ -14,8 +14,9 @@ abbrev μ-loop : tie.MeasureT-loop
 
 loop-holds : tie.Need-loop-holds Inv-loop μ-loop
 loop-holds c =
-    let start = c .before .before in
-    levels-start (start .args .width) (start .args .height) (start .args .levels .now) (start .args .at) (start .args .out .now) (start .pre .1 .0) (start .pre .1 .1)
+    let args = c .before .before .args in
+    let pre = c .before .before .pre in
+    levels-start (args .width) (args .height) (args .levels .now) (args .at) (args .out .now) (pre .1 .0) (pre .1 .1)
 
 add-stop : tie.Need-add-stop Inv-loop μ-loop
 add-stop c = let s = levels-inside (c .before .loop .inv) (c .loop-test .taken) in omega arith
@@ -34,8 +35,11 @@ part-write-row-end c = levels-inside (c .before .loop .inv) (c .loop-test .taken
 
 write-row-requires : tie.Need-write-row-requires Inv-loop μ-loop
 write-row-requires c κs =
-    let turn = c .before .before .before .loop in
-    (levels-row (turn .inv) (c .before .before .before .before .before .before .pre .0) (c .before .before .loop-test .taken), levels-room (turn .inv) (c .before .before .loop-test .taken))
+    let pre = c .before .before .before .before .before .before .pre in
+    let loop = c .before .before .before .loop in
+    let loop-test = c .before .before .loop-test in
+    let turn = loop in
+    (levels-row (turn .inv) (pre .0) (loop-test .taken), levels-room (turn .inv) (loop-test .taken))
 
 add-i : tie.Need-add-i Inv-loop μ-loop
 add-i c = search needs
@@ -45,8 +49,10 @@ loop-less c = omega arith
 
 loop-again : tie.Need-loop-again Inv-loop μ-loop
 loop-again c =
+    let loop = c .before .before .before .before .before .before .loop in
+    let loop-test = c .before .before .before .before .before .loop-test in
     let row = c .before .before .write-row in
-    levels-turn (c .before .before .before .before .before .before .loop .inv) (row .last .1 .0) (row .result) (c .before .before .before .before .before .loop-test .taken) (row .ensures)
+    levels-turn (loop .inv) (row .last .1 .0) (row .result) (loop-test .taken) (row .ensures)
 
 same-length : tie.Need-same-length Inv-loop μ-loop
 same-length c = levels-same (c .before .loop .inv)

@@ -19,16 +19,20 @@ slice-aggregate-write-bytes c = search needs
 
 write-bytes-requires : tie.Need-write-bytes-requires
 write-bytes-requires c κs =
-    let start = c .before .before .before .before .before .before .before .before in
-    room-second (10 ∷ digits (start .args .maximum)) (10 ∷ []) (start .args .at) (start .args .out .now) (start .pre) (c .before .before .before .before .write-labelled .ensures)
+    let args = c .before .before .before .before .before .before .before .before .args in
+    let pre = c .before .before .before .before .before .before .before .before .pre in
+    let write-labelled = c .before .before .before .before .write-labelled in
+    room-second (10 ∷ digits (args .maximum)) (10 ∷ []) (args .at) (args .out .now) pre (write-labelled .ensures)
 
 same-length : tie.Need-same-length
 same-length c = search needs
 
 returns : tie.Need-returns
 returns c =
-    let start = c .before .before .before .before .before .before .before .before .before .before .before in
-    wrote-both (10 ∷ digits (start .args .maximum)) (10 ∷ []) (start .args .at) (start .args .out .now) (start .pre) (c .before .before .before .before .before .before .before .write-labelled .ensures) (c .before .before .write-bytes .ensures)
+    let args = c .before .before .before .before .before .before .before .before .before .before .before .args in
+    let pre = c .before .before .before .before .before .before .before .before .before .before .before .pre in
+    let write-labelled = c .before .before .before .before .before .before .before .write-labelled in
+    wrote-both (10 ∷ digits (args .maximum)) (10 ∷ []) (args .at) (args .out .now) pre (write-labelled .ensures) (c .before .before .write-bytes .ensures)
 
 pub write-maximum-spec : {M : Type 1} → statement M
 write-maximum-spec =

@@ -29,9 +29,11 @@ same-length c = search needs
 
 returns : tie.Need-returns
 returns c =
-    let start = c .before .before .before .before .before .before in
-    let number = c .before .before .before .write-number in
-    wrote-parted (start .args .level) (start .args .column) (start .args .at) (start .args .out .now) (number .last .1 .0) (number .result) (c .parting-byte .result) (start .pre .1) (wrote-number (start .args .level) (start .args .at + 1) (start .args .out .now) (number .last .1 .0) (number .result) (number .ensures)) (c .parting-byte .ensures)
+    let args = c .before .before .before .before .before .before .args in
+    let pre = c .before .before .before .before .before .before .pre in
+    let write-number = c .before .before .before .write-number in
+    let number = write-number in
+    wrote-parted (args .level) (args .column) (args .at) (args .out .now) (number .last .1 .0) (number .result) (c .parting-byte .result) (pre .1) (wrote-number (args .level) (args .at + 1) (args .out .now) (number .last .1 .0) (number .result) (number .ensures)) (c .parting-byte .ensures)
 
 pub write-parted-spec : {M : Type 1} → statement M
 write-parted-spec =

@@ -20,8 +20,9 @@ same-length c = search needs
 
 returns : tie.Need-returns
 returns c =
-    let start = c .before .before .before .before .before .before .before .before .before .before .before in
-    text-wrote _ _ _ _ _ _ (start .args .out .now) (start .pre .0) (start .pre .1) (c .before .before .before .before .before .before .write-header .ensures) (c .before .before .write-levels .ensures)
+    let pre = c .before .before .before .before .before .before .before .before .before .before .before .pre in
+    let write-header = c .before .before .before .before .before .before .write-header in
+    text-wrote _ _ _ _ _ _ (c .before .before .before .before .before .before .before .before .before .before .before .args .out .now) (pre .0) (pre .1) (write-header .ensures) (c .before .before .write-levels .ensures)
 
 pub write-pgm-text-spec : {M : Type 1} → statement M
 write-pgm-text-spec =

@@ -17,16 +17,20 @@ slice-aggregate-write-pair-2 c = search needs
 
 write-pair-requires : tie.Need-write-pair-requires
 write-pair-requires c κs =
-    let start = c .before .before .before .before .before .before .before .before .before in
-    remark-second (start .args .magic .now) (start .args .done) (start .args .due) (start .args .at) (start .args .out .now) (start .pre) (c .before .before .before .before .before .write-bytes .ensures)
+    let args = c .before .before .before .before .before .before .before .before .before .args in
+    let pre = c .before .before .before .before .before .before .before .before .before .pre in
+    let write-bytes = c .before .before .before .before .before .write-bytes in
+    remark-second (args .magic .now) (args .done) (args .due) (args .at) (args .out .now) pre (write-bytes .ensures)
 
 same-length : tie.Need-same-length
 same-length c = search needs
 
 returns : tie.Need-returns
 returns c =
-    let start = c .before .before .before .before .before .before .before .before .before .before .before .before in
-    remark-wrote (start .args .magic .now) (start .args .done) (start .args .due) (start .args .at) (start .args .out .now) (start .pre) (c .before .before .before .before .before .before .before .before .write-bytes .ensures) (c .before .before .write-pair .ensures)
+    let args = c .before .before .before .before .before .before .before .before .before .before .before .before .args in
+    let pre = c .before .before .before .before .before .before .before .before .before .before .before .before .pre in
+    let write-bytes = c .before .before .before .before .before .before .before .before .write-bytes in
+    remark-wrote (args .magic .now) (args .done) (args .due) (args .at) (args .out .now) pre (write-bytes .ensures) (c .before .before .write-pair .ensures)
 
 pub write-remark-spec : {M : Type 1} → statement M
 write-remark-spec =

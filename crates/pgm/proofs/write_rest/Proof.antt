@@ -48,9 +48,13 @@ loop-less c = search needs
 
 loop-again : tie.Need-loop-again Inv-loop μ-loop
 loop-again c =
-    let widened = c .before .before .before .before .before .wide in
-    let parted = c .before .before .before .write-parted in
-    rest-turn (c .before .before .before .before .before .before .before .before .loop .inv) (widened .result) (parted .last .1 .1 .0) (parted .result) (c .column-after .result) (widened .ensures .0) (c .before .before .before .before .before .before .before .loop-test .taken) (parted .ensures) (c .column-after .ensures)
+    let loop = c .before .before .before .before .before .before .before .before .loop in
+    let loop-test = c .before .before .before .before .before .before .before .loop-test in
+    let wide = c .before .before .before .before .before .wide in
+    let write-parted = c .before .before .before .write-parted in
+    let widened = wide in
+    let parted = write-parted in
+    rest-turn (loop .inv) (widened .result) (parted .last .1 .1 .0) (parted .result) (c .column-after .result) (widened .ensures .0) (loop-test .taken) (parted .ensures) (c .column-after .ensures)
 
 slice-write-out : tie.Need-slice-write-out Inv-loop μ-loop
 slice-write-out c = rest-last (c .before .loop .inv) (c .loop-test .left)

@@ -13,8 +13,10 @@ wide-requires c κs = search needs
 
 write-number-requires : tie.Need-write-number-requires
 write-number-requires c κs =
-    let start = c .before .before .before .before .before in
-    row-first (start .args .row .now) (c .before .wide .result) (start .args .at) (start .args .out .now) (start .pre .0) (c .before .wide .ensures .0) (start .pre .1)
+    let args = c .before .before .before .before .before .args in
+    let pre = c .before .before .before .before .before .pre in
+    let wide = c .before .wide in
+    row-first (args .row .now) (wide .result) (args .at) (args .out .now) (pre .0) (wide .ensures .0) (pre .1)
 
 sub-write-rest : tie.Need-sub-write-rest
 sub-write-rest c = search needs
@@ -30,20 +32,26 @@ sub-write-rest-2 c = search needs
 
 write-rest-requires : tie.Need-write-rest-requires
 write-rest-requires c κs =
-    let start = c .before .before .before .before .before .before .before .before .before .before in
-    let widened = c .before .before .before .before .before .before .wide in
-    let number = c .before .before .before .before .write-number in
-    row-rest (start .args .row .now) (widened .result) (start .args .at) (start .args .out .now) (start .pre .0) (widened .ensures .0) (start .pre .1) (wrote-number (widened .result) (start .args .at) (start .args .out .now) (number .last .1 .0) (number .result) (number .ensures))
+    let args = c .before .before .before .before .before .before .before .before .before .before .args in
+    let pre = c .before .before .before .before .before .before .before .before .before .before .pre in
+    let wide = c .before .before .before .before .before .before .wide in
+    let write-number = c .before .before .before .before .write-number in
+    let widened = wide in
+    let number = write-number in
+    row-rest (args .row .now) (widened .result) (args .at) (args .out .now) (pre .0) (widened .ensures .0) (pre .1) (wrote-number (widened .result) (args .at) (args .out .now) (number .last .1 .0) (number .result) (number .ensures))
 
 same-length : tie.Need-same-length
 same-length c = search needs
 
 returns : tie.Need-returns
 returns c =
-    let start = c .before .before .before .before .before .before .before .before .before .before .before .before .before in
-    let widened = c .before .before .before .before .before .before .before .before .before .wide in
-    let number = c .before .before .before .before .before .before .before .write-number in
-    row-wrote (start .args .row .now) (widened .result) (start .args .at) (start .args .out .now) (start .pre .0) (widened .ensures .0) (start .pre .1) (wrote-number (widened .result) (start .args .at) (start .args .out .now) (number .last .1 .0) (number .result) (number .ensures)) (c .before .before .write-rest .ensures)
+    let args = c .before .before .before .before .before .before .before .before .before .before .before .before .before .args in
+    let pre = c .before .before .before .before .before .before .before .before .before .before .before .before .before .pre in
+    let wide = c .before .before .before .before .before .before .before .before .before .wide in
+    let write-number = c .before .before .before .before .before .before .before .write-number in
+    let widened = wide in
+    let number = write-number in
+    row-wrote (args .row .now) (widened .result) (args .at) (args .out .now) (pre .0) (widened .ensures .0) (pre .1) (wrote-number (widened .result) (args .at) (args .out .now) (number .last .1 .0) (number .result) (number .ensures)) (c .before .before .write-rest .ensures)
 
 pub write-row-spec : {M : Type 1} → statement M
 write-row-spec =

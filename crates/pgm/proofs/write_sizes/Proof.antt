@@ -13,21 +13,26 @@ slice-aggregate-write-pair-2 c = search needs
 
 write-pair-requires : tie.Need-write-pair-requires
 write-pair-requires c κs =
-    let start = c .before .before .before .before in
-    room-first (sidesPiece (start .args .width) (start .args .height)) (maximumPiece (start .args .maximum)) (start .args .at) (start .args .out .now) (start .pre)
+    let args = c .before .before .before .before .args in
+    let pre = c .before .before .before .before .pre in
+    room-first (sidesPiece (args .width) (args .height)) (maximumPiece (args .maximum)) (args .at) (args .out .now) pre
 
 write-maximum-requires : tie.Need-write-maximum-requires
 write-maximum-requires c κs =
-    let start = c .before .before .before .before .before .before .before .before in
-    room-second (sidesPiece (start .args .width) (start .args .height)) (maximumPiece (start .args .maximum)) (start .args .at) (start .args .out .now) (start .pre) (c .before .before .before .write-pair .ensures)
+    let args = c .before .before .before .before .before .before .before .before .args in
+    let pre = c .before .before .before .before .before .before .before .before .pre in
+    let write-pair = c .before .before .before .write-pair in
+    room-second (sidesPiece (args .width) (args .height)) (maximumPiece (args .maximum)) (args .at) (args .out .now) pre (write-pair .ensures)
 
 same-length : tie.Need-same-length
 same-length c = search needs
 
 returns : tie.Need-returns
 returns c =
-    let start = c .before .before .before .before .before .before .before .before .before .before .before in
-    wrote-both (sidesPiece (start .args .width) (start .args .height)) (maximumPiece (start .args .maximum)) (start .args .at) (start .args .out .now) (start .pre) (c .before .before .before .before .before .before .write-pair .ensures) (c .before .before .write-maximum .ensures)
+    let args = c .before .before .before .before .before .before .before .before .before .before .before .args in
+    let pre = c .before .before .before .before .before .before .before .before .before .before .before .pre in
+    let write-pair = c .before .before .before .before .before .before .write-pair in
+    wrote-both (sidesPiece (args .width) (args .height)) (maximumPiece (args .maximum)) (args .at) (args .out .now) pre (write-pair .ensures) (c .before .before .write-maximum .ensures)
 
 pub write-sizes-spec : {M : Type 1} → statement M
 write-sizes-spec =

@@ -20,7 +20,10 @@ same-length : tie.Need-same-length
 same-length c = search needs
 
 returns : tie.Need-returns
-returns c = prints-as (c .before .before .write-refused .result) (c .before .before .write-refused .last .1 .0) (too-long (c .before .before .before .before .before .before .before .before .before .before .args .input .now) (c .before .before .before .before .if1 .taken)) (c .before .before .write-refused .ensures)
+returns c =
+    let if1 = c .before .before .before .before .if1 in
+    let write-refused = c .before .before .write-refused in
+    prints-as (write-refused .result) (write-refused .last .1 .0) (too-long (c .before .before .before .before .before .before .before .before .before .before .args .input .now) (if1 .taken)) (write-refused .ensures)
 
 read-pbm-requires : tie.Need-read-pbm-requires
 read-pbm-requires c κs = search needs
@@ -29,7 +32,9 @@ cast-write-refused : tie.Need-cast-write-refused
 cast-write-refused c = search needs
 
 write-refused-requires-2 : tie.Need-write-refused-requires-2
-write-refused-requires-2 c κs = (omega arith, c .before .before .before .before .before .before .before .before .before .before .before .before .pre .1 .out-room)
+write-refused-requires-2 c κs =
+    let pre = c .before .before .before .before .before .before .before .before .before .before .before .before .pre in
+    (omega arith, pre .1 .out-room)
 
 same-length-2 : tie.Need-same-length-2
 same-length-2 c = search needs
@@ -38,22 +43,58 @@ same-length-3 : tie.Need-same-length-3
 same-length-3 c = search needs
 
 returns-2 : tie.Need-returns-2
-returns-2 c = prints-as (c .before .before .write-refused2 .result) (c .before .before .write-refused2 .last .1 .0) (read-refused (c .before .before .before .before .before .before .before .before .before .before .before .before .before .before .before .args .input .now) (c .before .before .before .before .before .before .before .before .before .before .before .before .before .before .before .args .sheet .now) (c .before .before .before .before .before .before .before .before .before .if1 .left) (c .before .before .before .before .before .before .before .before .before .before .before .before .before .before .before .pre .0) (c .before .before .before .before .before .before .before .read-pbm .result .refusal) (c .before .before .before .before .before .before .before .read-pbm .result .width) (c .before .before .before .before .before .before .before .read-pbm .result .height) (c .before .before .before .before .before .before .before .read-pbm .last .1 .0) (c .before .before .before .before .before .before .before .read-pbm .ensures) (c .before .before .before .before .if2 .taken)) (c .before .before .write-refused2 .ensures)
+returns-2 c =
+    let args = c .before .before .before .before .before .before .before .before .before .before .before .before .before .before .before .args in
+    let pre = c .before .before .before .before .before .before .before .before .before .before .before .before .before .before .before .pre in
+    let if1 = c .before .before .before .before .before .before .before .before .before .if1 in
+    let read-pbm = c .before .before .before .before .before .before .before .read-pbm in
+    let if2 = c .before .before .before .before .if2 in
+    let write-refused2 = c .before .before .write-refused2 in
+    prints-as (write-refused2 .result) (write-refused2 .last .1 .0) (read-refused (args .input .now) (args .sheet .now) (if1 .left) (pre .0) (read-pbm .result .refusal) (read-pbm .result .width) (read-pbm .result .height) (read-pbm .last .1 .0) (read-pbm .ensures) (if2 .taken)) (write-refused2 .ensures)
 
 row-bytes-requires : tie.Need-row-bytes-requires
-row-bytes-requires c κs = read-found (c .before .before .before .before .before .before .before .before .before .before .before .args .input .now) (c .before .before .before .before .before .before .before .before .before .before .before .args .sheet .now) (c .before .before .before .before .before .if1 .left) (c .before .before .before .before .before .before .before .before .before .before .before .pre .0) (c .before .before .before .read-pbm .result .refusal) (c .before .before .before .read-pbm .result .width) (c .before .before .before .read-pbm .result .height) (c .before .before .before .read-pbm .last .1 .0) (c .before .before .before .read-pbm .ensures) (c .if2 .left) (rowBytes (c .before .before .before .read-pbm .result .width)) refl .width-most
+row-bytes-requires c κs =
+    let args = c .before .before .before .before .before .before .before .before .before .before .before .args in
+    let pre = c .before .before .before .before .before .before .before .before .before .before .before .pre in
+    let if1 = c .before .before .before .before .before .if1 in
+    let read-pbm = c .before .before .before .read-pbm in
+    read-found (args .input .now) (args .sheet .now) (if1 .left) (pre .0) (read-pbm .result .refusal) (read-pbm .result .width) (read-pbm .result .height) (read-pbm .last .1 .0) (read-pbm .ensures) (c .if2 .left) (rowBytes (read-pbm .result .width)) refl .width-most
 
 mul-size : tie.Need-mul-size
-mul-size c = let l = read-found (c .before .before .before .before .before .before .before .before .before .before .before .before .args .input .now) (c .before .before .before .before .before .before .before .before .before .before .before .before .args .sheet .now) (c .before .before .before .before .before .before .if1 .left) (c .before .before .before .before .before .before .before .before .before .before .before .before .pre .0) (c .before .before .before .before .read-pbm .result .refusal) (c .before .before .before .before .read-pbm .result .width) (c .before .before .before .before .read-pbm .result .height) (c .before .before .before .before .read-pbm .last .1 .0) (c .before .before .before .before .read-pbm .ensures) (c .before .if2 .left) (c .row-bytes .result) (c .row-bytes .ensures) .few in omega arith
+mul-size c =
+    let args = c .before .before .before .before .before .before .before .before .before .before .before .before .args in
+    let pre = c .before .before .before .before .before .before .before .before .before .before .before .before .pre in
+    let if1 = c .before .before .before .before .before .before .if1 in
+    let read-pbm = c .before .before .before .before .read-pbm in
+    let l = read-found (args .input .now) (args .sheet .now) (if1 .left) (pre .0) (read-pbm .result .refusal) (read-pbm .result .width) (read-pbm .result .height) (read-pbm .last .1 .0) (read-pbm .ensures) (c .before .if2 .left) (c .row-bytes .result) (c .row-bytes .ensures) .few in
+    omega arith
 
 slice-reshare-prefix-print-sheet : tie.Need-slice-reshare-prefix-print-sheet
-slice-reshare-prefix-print-sheet c = read-found (c .before .before .before .before .before .before .before .before .before .before .before .before .args .input .now) (c .before .before .before .before .before .before .before .before .before .before .before .before .args .sheet .now) (c .before .before .before .before .before .before .if1 .left) (c .before .before .before .before .before .before .before .before .before .before .before .before .pre .0) (c .before .before .before .before .read-pbm .result .refusal) (c .before .before .before .before .read-pbm .result .width) (c .before .before .before .before .read-pbm .result .height) (c .before .before .before .before .read-pbm .last .1 .0) (c .before .before .before .before .read-pbm .ensures) (c .before .if2 .left) (c .row-bytes .result) (c .row-bytes .ensures) .fits
+slice-reshare-prefix-print-sheet c =
+    let args = c .before .before .before .before .before .before .before .before .before .before .before .before .args in
+    let pre = c .before .before .before .before .before .before .before .before .before .before .before .before .pre in
+    let if1 = c .before .before .before .before .before .before .if1 in
+    let read-pbm = c .before .before .before .before .read-pbm in
+    read-found (args .input .now) (args .sheet .now) (if1 .left) (pre .0) (read-pbm .result .refusal) (read-pbm .result .width) (read-pbm .result .height) (read-pbm .last .1 .0) (read-pbm .ensures) (c .before .if2 .left) (c .row-bytes .result) (c .row-bytes .ensures) .fits
 
 slice-aggregate-print-sheet : tie.Need-slice-aggregate-print-sheet
-slice-aggregate-print-sheet c = sym (length-take-le (c .before .before .before .before .before .read-pbm .result .height * c .before .row-bytes .result) (c .before .before .before .before .before .read-pbm .last .1 .0) (read-found (c .before .before .before .before .before .before .before .before .before .before .before .before .before .args .input .now) (c .before .before .before .before .before .before .before .before .before .before .before .before .before .args .sheet .now) (c .before .before .before .before .before .before .before .if1 .left) (c .before .before .before .before .before .before .before .before .before .before .before .before .before .pre .0) (c .before .before .before .before .before .read-pbm .result .refusal) (c .before .before .before .before .before .read-pbm .result .width) (c .before .before .before .before .before .read-pbm .result .height) (c .before .before .before .before .before .read-pbm .last .1 .0) (c .before .before .before .before .before .read-pbm .ensures) (c .before .before .if2 .left) (c .before .row-bytes .result) (c .before .row-bytes .ensures) .fits))
+slice-aggregate-print-sheet c =
+    let args = c .before .before .before .before .before .before .before .before .before .before .before .before .before .args in
+    let pre = c .before .before .before .before .before .before .before .before .before .before .before .before .before .pre in
+    let if1 = c .before .before .before .before .before .before .before .if1 in
+    let read-pbm = c .before .before .before .before .before .read-pbm in
+    let row-bytes = c .before .row-bytes in
+    sym (length-take-le (read-pbm .result .height * row-bytes .result) (read-pbm .last .1 .0) (read-found (args .input .now) (args .sheet .now) (if1 .left) (pre .0) (read-pbm .result .refusal) (read-pbm .result .width) (read-pbm .result .height) (read-pbm .last .1 .0) (read-pbm .ensures) (c .before .before .if2 .left) (row-bytes .result) (row-bytes .ensures) .fits))
 
 print-sheet-requires : tie.Need-print-sheet-requires
-print-sheet-requires c κs = (read-found (c .before .before .before .before .before .before .before .before .before .before .before .before .before .before .before .before .args .input .now) (c .before .before .before .before .before .before .before .before .before .before .before .before .before .before .before .before .args .sheet .now) (c .before .before .before .before .before .before .before .before .before .before .if1 .left) (c .before .before .before .before .before .before .before .before .before .before .before .before .before .before .before .before .pre .0) (c .before .before .before .before .before .before .before .before .read-pbm .result .refusal) (c .before .before .before .before .before .before .before .before .read-pbm .result .width) (c .before .before .before .before .before .before .before .before .read-pbm .result .height) (c .before .before .before .before .before .before .before .before .read-pbm .last .1 .0) (c .before .before .before .before .before .before .before .before .read-pbm .ensures) (c .before .before .before .before .before .if2 .left) (c .before .before .before .before .row-bytes .result) (c .before .before .before .before .row-bytes .ensures) .sound, c .before .before .before .before .before .before .before .before .before .before .before .before .before .before .before .before .pre .1)
+print-sheet-requires c κs =
+    let args = c .before .before .before .before .before .before .before .before .before .before .before .before .before .before .before .before .args in
+    let pre = c .before .before .before .before .before .before .before .before .before .before .before .before .before .before .before .before .pre in
+    let if1 = c .before .before .before .before .before .before .before .before .before .before .if1 in
+    let read-pbm = c .before .before .before .before .before .before .before .before .read-pbm in
+    let if2 = c .before .before .before .before .before .if2 in
+    let row-bytes = c .before .before .before .before .row-bytes in
+    (read-found (args .input .now) (args .sheet .now) (if1 .left) (pre .0) (read-pbm .result .refusal) (read-pbm .result .width) (read-pbm .result .height) (read-pbm .last .1 .0) (read-pbm .ensures) (if2 .left) (row-bytes .result) (row-bytes .ensures) .sound, pre .1)
 
 same-length-4 : tie.Need-same-length-4
 same-length-4 c = search needs
@@ -68,7 +109,15 @@ same-length-7 : tie.Need-same-length-7
 same-length-7 c = search needs
 
 returns-3 : tie.Need-returns-3
-returns-3 c = prints-as (c .before .before .before .before .before .before .print-sheet .result) (c .before .before .before .before .before .before .print-sheet .last .1 .1 .1 .1 .1 .0) (read-found (c .before .before .before .before .before .before .before .before .before .before .before .before .before .before .before .before .before .before .before .before .before .before .before .args .input .now) (c .before .before .before .before .before .before .before .before .before .before .before .before .before .before .before .before .before .before .before .before .before .before .before .args .sheet .now) (c .before .before .before .before .before .before .before .before .before .before .before .before .before .before .before .before .before .if1 .left) (c .before .before .before .before .before .before .before .before .before .before .before .before .before .before .before .before .before .before .before .before .before .before .before .pre .0) (c .before .before .before .before .before .before .before .before .before .before .before .before .before .before .before .read-pbm .result .refusal) (c .before .before .before .before .before .before .before .before .before .before .before .before .before .before .before .read-pbm .result .width) (c .before .before .before .before .before .before .before .before .before .before .before .before .before .before .before .read-pbm .result .height) (c .before .before .before .before .before .before .before .before .before .before .before .before .before .before .before .read-pbm .last .1 .0) (c .before .before .before .before .before .before .before .before .before .before .before .before .before .before .before .read-pbm .ensures) (c .before .before .before .before .before .before .before .before .before .before .before .before .if2 .left) (c .before .before .before .before .before .before .before .before .before .before .before .row-bytes .result) (c .before .before .before .before .before .before .before .before .before .before .before .row-bytes .ensures) .text) (c .before .before .before .before .before .before .print-sheet .ensures)
+returns-3 c =
+    let args = c .before .before .before .before .before .before .before .before .before .before .before .before .before .before .before .before .before .before .before .before .before .before .before .args in
+    let pre = c .before .before .before .before .before .before .before .before .before .before .before .before .before .before .before .before .before .before .before .before .before .before .before .pre in
+    let if1 = c .before .before .before .before .before .before .before .before .before .before .before .before .before .before .before .before .before .if1 in
+    let read-pbm = c .before .before .before .before .before .before .before .before .before .before .before .before .before .before .before .read-pbm in
+    let if2 = c .before .before .before .before .before .before .before .before .before .before .before .before .if2 in
+    let row-bytes = c .before .before .before .before .before .before .before .before .before .before .before .row-bytes in
+    let print-sheet = c .before .before .before .before .before .before .print-sheet in
+    prints-as (print-sheet .result) (print-sheet .last .1 .1 .1 .1 .1 .0) (read-found (args .input .now) (args .sheet .now) (if1 .left) (pre .0) (read-pbm .result .refusal) (read-pbm .result .width) (read-pbm .result .height) (read-pbm .last .1 .0) (read-pbm .ensures) (if2 .left) (row-bytes .result) (row-bytes .ensures) .text) (print-sheet .ensures)
 
 pub print-erosion-spec : {M : Type 1} → statement M
 print-erosion-spec =

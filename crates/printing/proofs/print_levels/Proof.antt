@@ -22,8 +22,12 @@ same-length-3 c = search needs
 
 returns : tie.Need-returns
 returns c =
-    picture-prints (c .before .before .before .before .before .before .before .before .before .before .before .before .before .before .before .before .args .width) (c .before .before .before .before .before .before .before .before .before .before .before .before .before .before .before .before .args .height) (c .before .before .before .before .before .before .before .before .before .before .before .before .before .before .before .before .args .sheet .now) (c .before .before .before .before .before .before .before .before .before .before .before .before .before .before .before .before .pre .0) (c .before .before .before .before .before .before .before .before .before .before .before .before .before .before .before .before .pre .1 .1 .1 .0) (c .before .before .before .before .before .before .before .before .before .before .before .before .before .before .before .before .args .out .now) (c .before .before .before .before .before .before .before .before .before .before .before .before .before .before .before .before .pre .1 .1 .1 .1)
-    (c .before .before .before .before .before .before .before .before .before .run-erosion .result) (c .before .before .before .before .before .before .before .before .before .run-erosion .last .1 .1 .1 .1 .0) (c .before .before .before .before .before .before .before .before .before .run-erosion .ensures) (c .before .before .write-pgm .result .refusal) (c .before .before .write-pgm .result .length) (c .before .before .write-pgm .last .1 .1 .0) (c .before .before .write-pgm .ensures)
+    let args = c .before .before .before .before .before .before .before .before .before .before .before .before .before .before .before .before .args in
+    let pre = c .before .before .before .before .before .before .before .before .before .before .before .before .before .before .before .before .pre in
+    let run-erosion = c .before .before .before .before .before .before .before .before .before .run-erosion in
+    let write-pgm = c .before .before .write-pgm in
+    picture-prints (args .width) (args .height) (args .sheet .now) (pre .0) (pre .1 .1 .1 .0) (args .out .now) (pre .1 .1 .1 .1)
+    (run-erosion .result) (run-erosion .last .1 .1 .1 .1 .0) (run-erosion .ensures) (write-pgm .result .refusal) (write-pgm .result .length) (write-pgm .last .1 .1 .0) (write-pgm .ensures)
 
 pub print-levels-spec : {M : Type 1} → statement M
 print-levels-spec =

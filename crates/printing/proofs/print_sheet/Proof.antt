@@ -12,7 +12,10 @@ use Rattle.printing.proofs.print_sheet.Statement.{statement}
 use Rattle.printing.proofs.print_sheet.Tie as tie
 
 mul-count : tie.Need-mul-count
-mul-count c = let p = pixels-fit (c .before .before .before .before .args .width) (c .before .before .before .before .args .height) (c .before .before .before .before .args .sheet .now) (c .before .before .before .before .pre .0) in omega arith
+mul-count c =
+    let args = c .before .before .before .before .args in
+    let pre = c .before .before .before .before .pre in
+    let p = pixels-fit (args .width) (args .height) (args .sheet .now) (pre .0) in omega arith
 
 write-refused-requires : tie.Need-write-refused-requires
 write-refused-requires c κs = search needs
@@ -21,22 +24,36 @@ same-length : tie.Need-same-length
 same-length c = search needs
 
 returns : tie.Need-returns
-returns c = prints-as (c .before .before .write-refused .result) (c .before .before .write-refused .last .1 .0) (too-many (c .before .before .before .before .before .before .before .before .before .args .width) (c .before .before .before .before .before .before .before .before .before .args .height) (c .before .before .before .before .before .before .before .before .before .args .sheet .now) (c .before .before .before .before .if1 .taken)) (c .before .before .write-refused .ensures)
+returns c =
+    let args = c .before .before .before .before .before .before .before .before .before .args in
+    let if1 = c .before .before .before .before .if1 in
+    let write-refused = c .before .before .write-refused in
+    prints-as (write-refused .result) (write-refused .last .1 .0) (too-many (args .width) (args .height) (args .sheet .now) (if1 .taken)) (write-refused .ensures)
 
 slice-relend-prefix-print-levels : tie.Need-slice-relend-prefix-print-levels
 slice-relend-prefix-print-levels c = search needs
 
 slice-aggregate-print-levels : tie.Need-slice-aggregate-print-levels
-slice-aggregate-print-levels c = sym (length-take-le (c .before .before .before .before .before .before .args .width * c .before .before .before .before .before .before .args .height) (c .before .before .before .before .before .before .args .levels .now) (let l = c .before .if1 .left in let r = c .before .before .before .before .before .before .pre .1 .levels-room in omega arith))
+slice-aggregate-print-levels c =
+    let args = c .before .before .before .before .before .before .args in
+    let pre = c .before .before .before .before .before .before .pre in
+    sym (length-take-le (args .width * args .height) (args .levels .now) (let l = c .before .if1 .left in let r = pre .1 .levels-room in omega arith))
 
 slice-relend-prefix-print-levels-2 : tie.Need-slice-relend-prefix-print-levels-2
 slice-relend-prefix-print-levels-2 c = search needs
 
 slice-aggregate-print-levels-2 : tie.Need-slice-aggregate-print-levels-2
-slice-aggregate-print-levels-2 c = sym (length-take-le (c .before .before .before .before .before .before .before .args .width * c .before .before .before .before .before .before .before .args .height) (c .before .before .before .before .before .before .before .args .collected .now) (let l = c .before .before .if1 .left in let r = c .before .before .before .before .before .before .before .pre .1 .collected-room in omega arith))
+slice-aggregate-print-levels-2 c =
+    let args = c .before .before .before .before .before .before .before .args in
+    let pre = c .before .before .before .before .before .before .before .pre in
+    sym (length-take-le (args .width * args .height) (args .collected .now) (let l = c .before .before .if1 .left in let r = pre .1 .collected-room in omega arith))
 
 print-levels-requires : tie.Need-print-levels-requires
-print-levels-requires c κs = (c .before .before .before .before .before .before .before .before .pre .0, (part-length (c .before .before .before .before .before .before .before .before .args .width) (c .before .before .before .before .before .before .before .before .args .height) (c .before .before .before .before .before .before .before .before .args .levels .now) (c .before .before .before .if1 .left) (c .before .before .before .before .before .before .before .before .pre .1 .levels-room), (part-length (c .before .before .before .before .before .before .before .before .args .width) (c .before .before .before .before .before .before .before .before .args .height) (c .before .before .before .before .before .before .before .before .args .collected .now) (c .before .before .before .if1 .left) (c .before .before .before .before .before .before .before .before .pre .1 .collected-room), (c .before .before .before .if1 .left, c .before .before .before .before .before .before .before .before .pre .1 .out-room))))
+print-levels-requires c κs =
+    let pre = c .before .before .before .before .before .before .before .before .pre in
+    let args = c .before .before .before .before .before .before .before .before .args in
+    let if1 = c .before .before .before .if1 in
+    (pre .0, (part-length (args .width) (args .height) (args .levels .now) (if1 .left) (pre .1 .levels-room), (part-length (args .width) (args .height) (args .collected .now) (if1 .left) (pre .1 .collected-room), (if1 .left, pre .1 .out-room))))
 
 same-length-2 : tie.Need-same-length-2
 same-length-2 c = search needs

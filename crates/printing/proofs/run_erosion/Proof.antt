@@ -24,9 +24,14 @@ same-length-2 c = search needs
 
 returns : tie.Need-returns
 returns c =
-    let started = start-gives (c .before .before .before .before .before .before .before .before .before .before .before .before .before .before .before .before .before .before .before .args .width) (c .before .before .before .before .before .before .before .before .before .before .before .before .before .before .before .before .before .before .before .args .height) (c .before .before .before .before .before .before .before .before .before .before .before .before .before .before .before .before .before .before .before .args .sheet .now) (c .before .before .before .before .before .before .before .before .before .before .before .before .before .before .before .before .before .before .before .pre .0) (c .before .before .before .before .before .before .before .before .before .before .before .before .before .before .before .before .before .before .before .args .levels .now) (c .before .before .before .before .before .before .before .before .before .before .before .before .before .before .before .before .before .before .before .pre .1 .0) (c .before .before .before .before .before .before .before .before .before .before .before .before .before .start-erosion .result .refusal) (c .before .before .before .before .before .before .before .before .before .before .before .before .before .start-erosion .result .run) (c .before .before .before .before .before .before .before .before .before .before .before .before .before .start-erosion .last .1 .1 .1 .1 .1 .0) (c .before .before .before .before .before .before .before .before .before .before .before .before .before .start-erosion .ensures) in
-    let continued = continue-gives (c .before .before .before .before .before .before .before .before .before .before .before .before .before .before .before .before .before .before .before .args .width) (c .before .before .before .before .before .before .before .before .before .before .before .before .before .before .before .before .before .before .before .args .height) (c .before .before .before .before .before .before .before .before .before .before .before .before .before .before .before .before .before .before .before .args .sheet .now) (c .before .before .before .before .before .before .before .before .before .before .before .before .before .before .before .before .before .before .before .pre .0) (c .before .before .before .before .before .before .before .before .before .before .before .before .before .start-erosion .result .run) (c .before .before .before .before .before .before .before .before .before .before .before .before .before .start-erosion .last .1 .1 .1 .1 .1 .0) started (c .before .before .before .before .before .before .before .before .continue-run .result .refusal) (c .before .before .before .before .before .before .before .before .continue-run .result .run) (c .before .before .before .before .before .before .before .before .continue-run .result .done) (c .before .before .before .before .before .before .before .before .continue-run .last .1 .0) (c .before .before .before .before .before .before .before .before .continue-run .ensures) in
-    (continued .0, collect-gives (c .before .before .before .before .before .before .before .before .before .before .before .before .before .before .before .before .before .before .before .args .width) (c .before .before .before .before .before .before .before .before .before .before .before .before .before .before .before .before .before .before .before .args .height) (c .before .before .before .before .before .before .before .before .before .before .before .before .before .before .before .before .before .before .before .args .sheet .now) (c .before .before .before .before .before .before .before .before .before .before .before .before .before .before .before .before .before .before .before .pre .0) (c .before .before .before .before .before .before .before .before .continue-run .result .run) (c .before .before .before .before .before .before .before .before .continue-run .last .1 .0) continued (c .before .before .before .before .before .before .before .before .before .before .before .before .before .before .before .before .before .before .before .args .collected .now) (c .before .before .before .before .before .before .before .before .before .before .before .before .before .before .before .before .before .before .before .pre .1 .1) (c .before .before .collect .result) (c .before .before .collect .last .1 .1 .0) (c .before .before .collect .ensures))
+    let args = c .before .before .before .before .before .before .before .before .before .before .before .before .before .before .before .before .before .before .before .args in
+    let pre = c .before .before .before .before .before .before .before .before .before .before .before .before .before .before .before .before .before .before .before .pre in
+    let start-erosion = c .before .before .before .before .before .before .before .before .before .before .before .before .before .start-erosion in
+    let continue-run = c .before .before .before .before .before .before .before .before .continue-run in
+    let collect = c .before .before .collect in
+    let started = start-gives (args .width) (args .height) (args .sheet .now) (pre .0) (args .levels .now) (pre .1 .0) (start-erosion .result .refusal) (start-erosion .result .run) (start-erosion .last .1 .1 .1 .1 .1 .0) (start-erosion .ensures) in
+    let continued = continue-gives (args .width) (args .height) (args .sheet .now) (pre .0) (start-erosion .result .run) (start-erosion .last .1 .1 .1 .1 .1 .0) started (continue-run .result .refusal) (continue-run .result .run) (continue-run .result .done) (continue-run .last .1 .0) (continue-run .ensures) in
+    (continued .0, collect-gives (args .width) (args .height) (args .sheet .now) (pre .0) (continue-run .result .run) (continue-run .last .1 .0) continued (args .collected .now) (pre .1 .1) (collect .result) (collect .last .1 .1 .0) (collect .ensures))
 
 pub run-erosion-spec : {M : Type 1} → statement M
 run-erosion-spec =

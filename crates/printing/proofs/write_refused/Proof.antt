@@ -8,7 +8,10 @@ slice-aggregate-write-labelled : tie.Need-slice-aggregate-write-labelled
 slice-aggregate-write-labelled c = search needs
 
 write-labelled-requires : tie.Need-write-labelled-requires
-write-labelled-requires c κs = number-room (c .before .before .before .args .number) (c .before .before .before .args .out .now) (c .before .before .before .pre)
+write-labelled-requires c κs =
+    let args = c .before .before .before .args in
+    let pre = c .before .before .before .pre in
+    number-room (args .number) (args .out .now) pre
 
 slice-aggregate-write-bytes : tie.Need-slice-aggregate-write-bytes
 slice-aggregate-write-bytes c = search needs

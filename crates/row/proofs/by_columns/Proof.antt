@@ -46,13 +46,14 @@ same-length c = search needs
 
 returns : tie.Need-returns
 returns c =
+    let lower-from = c .before .before .before .before .before .before .lower-from in
     let before-to = c .before .before .before .before .before .before .before .before .before .before in
     let s = before-to .before .before .before .before .before in
     let a = s .args in
     let left = before-to .before .before .before .over-edge in
     let right = before-to .before .before .over-edge2 in
     by-stretches (a .width) (a .from) (a .beyond) (a .at) (a .across) (a .part .now) (s .pre .1 .1) (left .result) (right .result) _ _ _ _
-    (left .ensures) (right .ensures) refl (before-to .lower-to .ensures) (c .before .before .before .before .before .before .lower-from .ensures) (c .before .before .lower-to2 .ensures)
+    (left .ensures) (right .ensures) refl (before-to .lower-to .ensures) (lower-from .ensures) (c .before .before .lower-to2 .ensures)
 
 pub by-columns-spec : {M : Type 1} → statement M
 by-columns-spec =

@@ -52,10 +52,11 @@ loop-less c = search needs
 
 loop-again : tie.Need-loop-again Inv-loop μ-loop
 loop-again c =
+    let by-cell = c .before .before .by-cell in
     let turn = c .before .before .before .before in
     let l = turn .before .loop in
     let s = turn .before .before .before .before in
-    (omega arith, pass-cell (the-area s) (s .args .row) _ (l .n) (s .args .part .now) (l .part) (c .before .before .by-cell .last .0) (cell turn .1) (l .inv .1) (c .before .before .by-cell .ensures))
+    (omega arith, pass-cell (the-area s) (s .args .row) _ (l .n) (s .args .part .now) (l .part) (by-cell .last .0) (cell turn .1) (l .inv .1) (by-cell .ensures))
 
 same-length : tie.Need-same-length Inv-loop μ-loop
 same-length c = search needs

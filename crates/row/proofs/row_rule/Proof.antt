@@ -50,7 +50,9 @@ mul-by-own-row : tie.Need-mul-by-own-row
 mul-by-own-row c = omega (arith, own (c .before .before .before .before .before .before .before .before .before .before .before))
 
 by-own-row-requires : tie.Need-by-own-row-requires
-by-own-row-requires c κs = omega (arith, own (c .before .before .before .before .before .before .before .before .before .before .before), c .before .before .before .before .before .before .before .before .by-other-rows .kept .0)
+by-own-row-requires c κs =
+    let by-other-rows = c .before .before .before .before .before .before .before .before .by-other-rows in
+    omega (arith, own (c .before .before .before .before .before .before .before .before .before .before .before), by-other-rows .kept .0)
 
 same-length : tie.Need-same-length
 same-length c = search needs

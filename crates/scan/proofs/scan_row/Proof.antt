@@ -16,14 +16,19 @@ sub-start c = search needs
 
 row-in-part-requires : tie.Need-row-in-part-requires
 row-in-part-requires c κs =
+    let pre = c .before .before .before .before .pre in
+    let args = c .before .before .before .before .args in
     let e = c .before .lesser .ensures in
-    (c .before .before .before .before .pre .0, (omega arith, (c .before .before .if1 .taken, rw e (down-within (c .before .before .before .before .args .reach) (c .before .before .before .before .args .done) (c .before .before .before .before .args .cells) (c .before .before .before .before .pre .1 .1)))))
+    (pre .0, (omega arith, (c .before .before .if1 .taken, rw e (down-within (args .reach) (args .done) (args .cells) (pre .1 .1)))))
 
 same-length : tie.Need-same-length
 same-length c = search needs
 
 returns : tie.Need-returns
-returns c = c .before .before .row-in-part .ensures ∙ sym (row-down (area (c .before .before .before .before .before .before .before .args .width) (c .before .before .before .before .before .before .before .args .height) (c .before .before .before .before .before .before .before .args .beyond) (c .before .before .before .before .before .before .before .args .cells)) (c .before .before .before .before .before .before .before .args .done) (c .before .before .before .before .before .before .before .args .levels .now) (c .before .before .before .before .before .if1 .taken))
+returns c =
+    let args = c .before .before .before .before .before .before .before .args in
+    let if1 = c .before .before .before .before .before .if1 in
+    c .before .before .row-in-part .ensures ∙ sym (row-down (area (args .width) (args .height) (args .beyond) (args .cells)) (args .done) (args .levels .now) (if1 .taken))
 
 add-row : tie.Need-add-row
 add-row c = search needs
@@ -42,7 +47,10 @@ same-length-2 : tie.Need-same-length-2
 same-length-2 c = search needs
 
 returns-2 : tie.Need-returns-2
-returns-2 c = c .before .before .row-in-part2 .ensures ∙ sym (row-up (area (c .before .before .before .before .before .before .args .width) (c .before .before .before .before .before .before .args .height) (c .before .before .before .before .before .before .args .beyond) (c .before .before .before .before .before .before .args .cells)) (c .before .before .before .before .before .before .args .done) _ (c .before .before .before .before .before .before .args .levels .now) (c .before .before .before .before .if1 .left) refl)
+returns-2 c =
+    let args = c .before .before .before .before .before .before .args in
+    let if1 = c .before .before .before .before .if1 in
+    c .before .before .row-in-part2 .ensures ∙ sym (row-up (area (args .width) (args .height) (args .beyond) (args .cells)) (args .done) _ (args .levels .now) (if1 .left) refl)
 
 pub scan-row-spec : {M : Type 1} → statement M
 scan-row-spec =

@@ -16,15 +16,20 @@ abbrev μ-loop : tie.MeasureT-loop
 μ-loop levels₀ width height done count reach cells beyond n₀ levels n = count - n
 
 loop-holds : tie.Need-loop-holds Inv-loop μ-loop
-loop-holds c = (omega arith, sym (rows-none (area (c .before .args .width) (c .before .args .height) (c .before .args .beyond) (c .before .args .cells)) (c .before .args .done) (c .before .args .levels .now)))
+loop-holds c =
+    let args = c .before .args in
+    (omega arith, sym (rows-none (area (args .width) (args .height) (args .beyond) (args .cells)) (args .done) (args .levels .now)))
 
 add-scan-row : tie.Need-add-scan-row Inv-loop μ-loop
 add-scan-row c = search needs
 
 scan-row-requires : tie.Need-scan-row-requires Inv-loop μ-loop
 scan-row-requires c κs =
-    let i = c .before .before .loop .inv in
-    (rw (i .1) (lent-rows (c .before .before .before .before .args .width) (c .before .before .before .before .args .height) (c .before .before .before .before .args .beyond) (c .before .before .before .before .args .cells) (c .before .before .before .before .args .done) (c .before .before .loop .n) (c .before .before .before .before .args .levels .now) (c .before .before .before .before .pre .0)), (omega arith, c .before .before .before .before .pre .1 .1))
+    let args = c .before .before .before .before .args in
+    let pre = c .before .before .before .before .pre in
+    let loop = c .before .before .loop in
+    let i = loop .inv in
+    (rw (i .1) (lent-rows (args .width) (args .height) (args .beyond) (args .cells) (args .done) (loop .n) (args .levels .now) (pre .0)), (omega arith, pre .1 .1))
 
 add-n : tie.Need-add-n Inv-loop μ-loop
 add-n c = search needs
@@ -34,15 +39,23 @@ loop-less c = search needs
 
 loop-again : tie.Need-loop-again Inv-loop μ-loop
 loop-again c =
-    let a = area (c .before .before .before .before .before .before .before .args .width) (c .before .before .before .before .before .before .before .args .height) (c .before .before .before .before .before .before .before .args .beyond) (c .before .before .before .before .before .before .before .args .cells) in
-    let i = c .before .before .before .before .before .loop .inv in
-    (omega arith, c .before .before .scan-row .ensures ∙ ap (scanRow a (c .before .before .before .before .before .before .before .args .done + c .before .before .before .before .before .loop .n)) (i .1) ∙ rows-more a (c .before .before .before .before .before .before .before .args .done) (c .before .before .before .before .before .loop .n) (c .before .before .before .before .before .before .before .args .levels .now))
+    let args = c .before .before .before .before .before .before .before .args in
+    let loop = c .before .before .before .before .before .loop in
+    let a = area (args .width) (args .height) (args .beyond) (args .cells) in
+    let i = loop .inv in
+    (omega arith, c .before .before .scan-row .ensures ∙ ap (scanRow a (args .done + loop .n)) (i .1) ∙ rows-more a (args .done) (loop .n) (args .levels .now))
 
 same-length : tie.Need-same-length Inv-loop μ-loop
-same-length c = ap length (c .before .loop .inv .1) ∙ rows-length (area (c .before .before .before .args .width) (c .before .before .before .args .height) (c .before .before .before .args .beyond) (c .before .before .before .args .cells)) (c .before .before .before .args .done) (c .before .loop .n) (c .before .before .before .args .levels .now)
+same-length c =
+    let args = c .before .before .before .args in
+    let loop = c .before .loop in
+    ap length (loop .inv .1) ∙ rows-length (area (args .width) (args .height) (args .beyond) (args .cells)) (args .done) (loop .n) (args .levels .now)
 
 returns : tie.Need-returns Inv-loop μ-loop
-returns c = c .before .loop .inv .1 ∙ ap (λ n. scanRows (area (c .before .before .before .args .width) (c .before .before .before .args .height) (c .before .before .before .args .beyond) (c .before .before .before .args .cells)) (c .before .before .before .args .done) n (c .before .before .before .args .levels .now)) (let i = c .before .loop .inv in let e : c .before .loop .n ≡ c .before .before .before .args .count = omega arith in e)
+returns c =
+    let args = c .before .before .before .args in
+    let loop = c .before .loop in
+    loop .inv .1 ∙ ap (λ n. scanRows (area (args .width) (args .height) (args .beyond) (args .cells)) (args .done) n (args .levels .now)) (let i = loop .inv in let e : loop .n ≡ args .count = omega arith in e)
 
 pub scan-rows-spec : {M : Type 1} → statement M
 scan-rows-spec =

@@ -15,10 +15,16 @@ is-side-out-requires-2 : tie.Need-is-side-out-requires-2
 is-side-out-requires-2 c κs = search needs
 
 returns-2 : tie.Need-returns-2
-returns-2 c = refuse-height (c .before .before .before .before .args .width) (c .before .before .before .before .args .height) (sym (c .before .before .before .is-side-out .ensures) ∙ c .before .before .if1 .left) (sym (c .before .is-side-out2 .ensures) ∙ c .if2 .taken)
+returns-2 c =
+    let args = c .before .before .before .before .args in
+    let is-side-out = c .before .before .before .is-side-out in
+    refuse-height (args .width) (args .height) (sym (is-side-out .ensures) ∙ c .before .before .if1 .left) (sym (c .before .is-side-out2 .ensures) ∙ c .if2 .taken)
 
 returns-3 : tie.Need-returns-3
-returns-3 c = accept-frame (c .before .before .before .before .args .width) (c .before .before .before .before .args .height) (sym (c .before .before .before .is-side-out .ensures) ∙ c .before .before .if1 .left) (sym (c .before .is-side-out2 .ensures) ∙ c .if2 .left)
+returns-3 c =
+    let args = c .before .before .before .before .args in
+    let is-side-out = c .before .before .before .is-side-out in
+    accept-frame (args .width) (args .height) (sym (is-side-out .ensures) ∙ c .before .before .if1 .left) (sym (c .before .is-side-out2 .ensures) ∙ c .if2 .left)
 
 pub frame-refusal-spec : {M : Type 1} → statement M
 frame-refusal-spec =

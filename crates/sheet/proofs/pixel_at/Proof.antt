@@ -13,10 +13,16 @@ row-bytes-requires : tie.Need-row-bytes-requires
 row-bytes-requires c κs = search needs
 
 mul-byte : tie.Need-mul-byte
-mul-byte c = let s = place-small (c .before .before .args .width) (c .before .before .args .row) (c .before .before .pre .0) (c .before .before .pre .1 .0) in let e = ap (λ n. c .before .before .args .row * n) (c .row-bytes .ensures) in omega arith
+mul-byte c =
+    let args = c .before .before .args in
+    let pre = c .before .before .pre in
+    let s = place-small (args .width) (args .row) (pre .0) (pre .1 .0) in let e = ap (λ n. args .row * n) (c .row-bytes .ensures) in omega arith
 
 add-byte : tie.Need-add-byte
-add-byte c = let s = place-small (c .before .before .args .width) (c .before .before .args .row) (c .before .before .pre .0) (c .before .before .pre .1 .0) in let e = ap (λ n. c .before .before .args .row * n) (c .row-bytes .ensures) in omega arith
+add-byte c =
+    let args = c .before .before .args in
+    let pre = c .before .before .pre in
+    let s = place-small (args .width) (args .row) (pre .0) (pre .1 .0) in let e = ap (λ n. args .row * n) (c .row-bytes .ensures) in omega arith
 
 shared-slice-read-byte : tie.Need-shared-slice-read-byte
 shared-slice-read-byte c = let e = ap (λ n. c .before .before .before .args .row * n) (c .before .row-bytes .ensures) in omega arith
@@ -32,7 +38,9 @@ shr-result c = search needs
 
 returns : tie.Need-returns
 unfolding pixel
-returns c = ap (λ n. getD (c .before .before .before .args .sheet .now) (c .before .before .before .args .row * n + c .before .before .before .args .col / 8) 0 / 2 ^ (7 - c .before .before .before .args .col % 8) % 2) (c .before .row-bytes .ensures)
+returns c =
+    let args = c .before .before .before .args in
+    ap (λ n. getD (args .sheet .now) (args .row * n + args .col / 8) 0 / 2 ^ (7 - args .col % 8) % 2) (c .before .row-bytes .ensures)
 
 pub pixel-at-spec : {M : Type 1} → statement M
 pixel-at-spec =

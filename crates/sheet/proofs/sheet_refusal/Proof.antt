@@ -11,23 +11,34 @@ frame-refusal-requires : tie.Need-frame-refusal-requires
 frame-refusal-requires c κs = search needs
 
 returns : tie.Need-returns
-returns c = refuse-frame (c .before .before .before .args .width) (c .before .before .before .args .height) (c .before .before .before .args .sheet .now) _ (c .if1 .taken) (c .before .frame-refusal .ensures)
+returns c =
+    let args = c .before .before .before .args in
+    refuse-frame (args .width) (args .height) (args .sheet .now) _ (c .if1 .taken) (c .before .frame-refusal .ensures)
 
 row-bytes-requires : tie.Need-row-bytes-requires
-row-bytes-requires c κs = frame-sides (c .before .before .before .args .width) (c .before .before .before .args .height) (sym (c .before .frame-refusal .ensures) ∙ c .if1 .left) .0 .1
+row-bytes-requires c κs =
+    let args = c .before .before .before .args in
+    frame-sides (args .width) (args .height) (sym (c .before .frame-refusal .ensures) ∙ c .if1 .left) .0 .1
 
 mul-if2 : tie.Need-mul-if2
 mul-if2 c =
-    let f = frame-sides (c .before .before .before .before .args .width) (c .before .before .before .before .args .height) (sym (c .before .before .frame-refusal .ensures) ∙ c .before .if1 .left) in
-    let s = raster-small (c .before .before .before .before .args .width) (c .before .before .before .before .args .height) (f .0 .1) (f .1 .1) in
-    let e = ap (λ n. c .before .before .before .before .args .height * n) (c .row-bytes .ensures) in
+    let args = c .before .before .before .before .args in
+    let f = frame-sides (args .width) (args .height) (sym (c .before .before .frame-refusal .ensures) ∙ c .before .if1 .left) in
+    let s = raster-small (args .width) (args .height) (f .0 .1) (f .1 .1) in
+    let e = ap (λ n. args .height * n) (c .row-bytes .ensures) in
     omega arith
 
 returns-2 : tie.Need-returns-2
-returns-2 c = refuse-bytes (c .before .before .before .before .before .args .width) (c .before .before .before .before .before .args .height) (c .before .before .before .before .before .args .sheet .now) (sym (c .before .before .before .frame-refusal .ensures) ∙ c .before .before .if1 .left) (λ e. c .if2 .taken (e ∙ ap (λ n. c .before .before .before .before .before .args .height * n) (sym (c .before .row-bytes .ensures))))
+returns-2 c =
+    let args = c .before .before .before .before .before .args in
+    let frame-refusal = c .before .before .before .frame-refusal in
+    refuse-bytes (args .width) (args .height) (args .sheet .now) (sym (frame-refusal .ensures) ∙ c .before .before .if1 .left) (λ e. c .if2 .taken (e ∙ ap (λ n. args .height * n) (sym (c .before .row-bytes .ensures))))
 
 returns-3 : tie.Need-returns-3
-returns-3 c = accept-sheet (c .before .before .before .before .before .args .width) (c .before .before .before .before .before .args .height) (c .before .before .before .before .before .args .sheet .now) (sym (c .before .before .before .frame-refusal .ensures) ∙ c .before .before .if1 .left) (c .if2 .left ∙ ap (λ n. c .before .before .before .before .before .args .height * n) (c .before .row-bytes .ensures))
+returns-3 c =
+    let args = c .before .before .before .before .before .args in
+    let frame-refusal = c .before .before .before .frame-refusal in
+    accept-sheet (args .width) (args .height) (args .sheet .now) (sym (frame-refusal .ensures) ∙ c .before .before .if1 .left) (c .if2 .left ∙ ap (λ n. args .height * n) (c .before .row-bytes .ensures))
 
 pub sheet-refusal-spec : {M : Type 1} → statement M
 sheet-refusal-spec =

@@ -12,18 +12,22 @@ write-bytes-requires c κs =
 
 write-number-requires : tie.Need-write-number-requires
 write-number-requires c κs =
-    let start = c .before .before .before .before .before .before .before in
-    room-second (start .args .label .now) (digits (start .args .n)) (start .args .at) (start .args .out .now) (start .pre) (c .before .before .before .write-bytes .ensures)
+    let args = c .before .before .before .before .before .before .before .args in
+    let pre = c .before .before .before .before .before .before .before .pre in
+    let write-bytes = c .before .before .before .write-bytes in
+    room-second (args .label .now) (digits (args .n)) (args .at) (args .out .now) pre (write-bytes .ensures)
 
 same-length : tie.Need-same-length
 same-length c = search needs
 
 returns : tie.Need-returns
 returns c =
-    let start = c .before .before .before .before .before .before .before .before .before .before in
-    let bytes = c .before .before .before .before .before .before .write-bytes in
+    let args = c .before .before .before .before .before .before .before .before .before .before .args in
+    let pre = c .before .before .before .before .before .before .before .before .before .before .pre in
+    let write-bytes = c .before .before .before .before .before .before .write-bytes in
+    let bytes = write-bytes in
     let number = c .before .before .write-number in
-    wrote-both (start .args .label .now) (digits (start .args .n)) (start .args .at) (start .args .out .now) (start .pre) (bytes .ensures) (wrote-number (start .args .n) (bytes .result) (bytes .last .1 .0) (number .last .1 .0) (number .result) (number .ensures))
+    wrote-both (args .label .now) (digits (args .n)) (args .at) (args .out .now) pre (bytes .ensures) (wrote-number (args .n) (bytes .result) (bytes .last .1 .0) (number .last .1 .0) (number .result) (number .ensures))
 
 pub write-labelled-spec : {M : Type 1} → statement M
 write-labelled-spec =

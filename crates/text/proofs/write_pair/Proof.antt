@@ -8,21 +8,26 @@ use Rattle.text.proofs.write_pair.Tie as tie
 
 write-labelled-requires : tie.Need-write-labelled-requires
 write-labelled-requires c κs =
-    let start = c .before .before .before .before in
-    room-first (start .args .before .now ++ digits (start .args .first)) (start .args .between .now ++ digits (start .args .second)) (start .args .at) (start .args .out .now) (start .pre)
+    let args = c .before .before .before .before .args in
+    let pre = c .before .before .before .before .pre in
+    room-first (args .before .now ++ digits (args .first)) (args .between .now ++ digits (args .second)) (args .at) (args .out .now) pre
 
 write-labelled-requires-2 : tie.Need-write-labelled-requires-2
 write-labelled-requires-2 c κs =
-    let start = c .before .before .before .before .before .before .before .before in
-    room-second (start .args .before .now ++ digits (start .args .first)) (start .args .between .now ++ digits (start .args .second)) (start .args .at) (start .args .out .now) (start .pre) (c .before .before .before .write-labelled .ensures)
+    let args = c .before .before .before .before .before .before .before .before .args in
+    let pre = c .before .before .before .before .before .before .before .before .pre in
+    let write-labelled = c .before .before .before .write-labelled in
+    room-second (args .before .now ++ digits (args .first)) (args .between .now ++ digits (args .second)) (args .at) (args .out .now) pre (write-labelled .ensures)
 
 same-length : tie.Need-same-length
 same-length c = search needs
 
 returns : tie.Need-returns
 returns c =
-    let start = c .before .before .before .before .before .before .before .before .before .before .before in
-    wrote-both (start .args .before .now ++ digits (start .args .first)) (start .args .between .now ++ digits (start .args .second)) (start .args .at) (start .args .out .now) (start .pre) (c .before .before .before .before .before .before .write-labelled .ensures) (c .before .before .write-labelled2 .ensures)
+    let args = c .before .before .before .before .before .before .before .before .before .before .before .args in
+    let pre = c .before .before .before .before .before .before .before .before .before .before .before .pre in
+    let write-labelled = c .before .before .before .before .before .before .write-labelled in
+    wrote-both (args .before .now ++ digits (args .first)) (args .between .now ++ digits (args .second)) (args .at) (args .out .now) pre (write-labelled .ensures) (c .before .before .write-labelled2 .ensures)
 
 pub write-pair-spec : {M : Type 1} → statement M
 write-pair-spec =

@@ -14,13 +14,19 @@ slice-aggregate-out : tie.Need-slice-aggregate-out
 slice-aggregate-out c = search needs
 
 slice-aggregate-close : tie.Need-slice-aggregate-close
-slice-aggregate-close c = even-size 32 0 (c .before .before .before .before .before .before .before .before .args .first) (c .before .before .before .before .before .before .before .before .pre .0)
+slice-aggregate-close c =
+    let pre = c .before .before .before .before .before .before .before .before .pre in
+    even-size 32 0 (c .before .before .before .before .before .before .before .before .args .first) (pre .0)
 
 slice-aggregate-close-2 : tie.Need-slice-aggregate-close-2
-slice-aggregate-close-2 c = even-size 32 0 (c .before .before .before .before .before .before .before .before .before .args .second) (c .before .before .before .before .before .before .before .before .before .pre .1 .0)
+slice-aggregate-close-2 c =
+    let pre = c .before .before .before .before .before .before .before .before .before .pre in
+    even-size 32 0 (c .before .before .before .before .before .before .before .before .before .args .second) (pre .1 .0)
 
 slice-aggregate-close-3 : tie.Need-slice-aggregate-close-3
-slice-aggregate-close-3 c = even-size 32 0 (c .before .before .before .before .before .before .before .before .before .before .args .room) (c .before .before .before .before .before .before .before .before .before .before .pre .1 .1)
+slice-aggregate-close-3 c =
+    let pre = c .before .before .before .before .before .before .before .before .before .before .pre in
+    even-size 32 0 (c .before .before .before .before .before .before .before .before .before .before .args .room) (pre .1 .1)
 
 close-requires : tie.Need-close-requires
 close-requires c κs = search needs
@@ -35,13 +41,19 @@ returns : tie.Need-returns
 returns c = search needs
 
 slice-aggregate-open : tie.Need-slice-aggregate-open
-slice-aggregate-open c = even-size 32 0 (c .before .before .before .before .before .before .before .before .args .first) (c .before .before .before .before .before .before .before .before .pre .0)
+slice-aggregate-open c =
+    let pre = c .before .before .before .before .before .before .before .before .pre in
+    even-size 32 0 (c .before .before .before .before .before .before .before .before .args .first) (pre .0)
 
 slice-aggregate-open-2 : tie.Need-slice-aggregate-open-2
-slice-aggregate-open-2 c = even-size 32 0 (c .before .before .before .before .before .before .before .before .before .args .second) (c .before .before .before .before .before .before .before .before .before .pre .1 .0)
+slice-aggregate-open-2 c =
+    let pre = c .before .before .before .before .before .before .before .before .before .pre in
+    even-size 32 0 (c .before .before .before .before .before .before .before .before .before .args .second) (pre .1 .0)
 
 slice-aggregate-open-3 : tie.Need-slice-aggregate-open-3
-slice-aggregate-open-3 c = even-size 32 0 (c .before .before .before .before .before .before .before .before .before .before .args .room) (c .before .before .before .before .before .before .before .before .before .before .pre .1 .1)
+slice-aggregate-open-3 c =
+    let pre = c .before .before .before .before .before .before .before .before .before .before .pre in
+    even-size 32 0 (c .before .before .before .before .before .before .before .before .before .before .args .room) (pre .1 .1)
 
 open-requires : tie.Need-open-requires
 open-requires c κs = search needs

@@ -14,13 +14,19 @@ slice-aggregate-out : tie.Need-slice-aggregate-out
 slice-aggregate-out c = search needs
 
 slice-aggregate-closing-levels : tie.Need-slice-aggregate-closing-levels
-slice-aggregate-closing-levels c = even-size 32 0 (c .before .before .before .before .before .before .before .before .args .first) (c .before .before .before .before .before .before .before .before .pre .0)
+slice-aggregate-closing-levels c =
+    let pre = c .before .before .before .before .before .before .before .before .pre in
+    even-size 32 0 (c .before .before .before .before .before .before .before .before .args .first) (pre .0)
 
 slice-aggregate-closing-levels-2 : tie.Need-slice-aggregate-closing-levels-2
-slice-aggregate-closing-levels-2 c = even-size 32 0 (c .before .before .before .before .before .before .before .before .before .args .second) (c .before .before .before .before .before .before .before .before .before .pre .1 .0)
+slice-aggregate-closing-levels-2 c =
+    let pre = c .before .before .before .before .before .before .before .before .before .pre in
+    even-size 32 0 (c .before .before .before .before .before .before .before .before .before .args .second) (pre .1 .0)
 
 slice-aggregate-closing-levels-3 : tie.Need-slice-aggregate-closing-levels-3
-slice-aggregate-closing-levels-3 c = even-size 32 0 (c .before .before .before .before .before .before .before .before .before .before .args .room) (c .before .before .before .before .before .before .before .before .before .before .pre .1 .1)
+slice-aggregate-closing-levels-3 c =
+    let pre = c .before .before .before .before .before .before .before .before .before .before .pre in
+    even-size 32 0 (c .before .before .before .before .before .before .before .before .before .before .args .room) (pre .1 .1)
 
 closing-levels-requires : tie.Need-closing-levels-requires
 closing-levels-requires c κs = search needs
@@ -35,13 +41,19 @@ returns : tie.Need-returns
 returns c = search needs
 
 slice-aggregate-opening-levels : tie.Need-slice-aggregate-opening-levels
-slice-aggregate-opening-levels c = even-size 32 0 (c .before .before .before .before .before .before .before .before .args .first) (c .before .before .before .before .before .before .before .before .pre .0)
+slice-aggregate-opening-levels c =
+    let pre = c .before .before .before .before .before .before .before .before .pre in
+    even-size 32 0 (c .before .before .before .before .before .before .before .before .args .first) (pre .0)
 
 slice-aggregate-opening-levels-2 : tie.Need-slice-aggregate-opening-levels-2
-slice-aggregate-opening-levels-2 c = even-size 32 0 (c .before .before .before .before .before .before .before .before .before .args .second) (c .before .before .before .before .before .before .before .before .before .pre .1 .0)
+slice-aggregate-opening-levels-2 c =
+    let pre = c .before .before .before .before .before .before .before .before .before .pre in
+    even-size 32 0 (c .before .before .before .before .before .before .before .before .before .args .second) (pre .1 .0)
 
 slice-aggregate-opening-levels-3 : tie.Need-slice-aggregate-opening-levels-3
-slice-aggregate-opening-levels-3 c = even-size 32 0 (c .before .before .before .before .before .before .before .before .before .before .args .room) (c .before .before .before .before .before .before .before .before .before .before .pre .1 .1)
+slice-aggregate-opening-levels-3 c =
+    let pre = c .before .before .before .before .before .before .before .before .before .before .pre in
+    even-size 32 0 (c .before .before .before .before .before .before .before .before .before .before .args .room) (pre .1 .1)
 
 opening-levels-requires : tie.Need-opening-levels-requires
 opening-levels-requires c κs = search needs

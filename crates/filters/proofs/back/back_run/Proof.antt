@@ -15,7 +15,9 @@ other-kind-requires : tie.Need-other-kind-requires
 other-kind-requires c κs = search needs
 
 returns : tie.Need-returns
-returns c = back-record (c .before .before .before .before .args .run) _ _ _ _ (c .before .other-kind .ensures) (c .before .before .before .area-width .ensures .0) (c .before .before .area-height .ensures .0) refl
+returns c =
+    let area-width = c .before .before .before .area-width in
+    back-record (c .before .before .before .before .args .run) _ _ _ _ (c .before .other-kind .ensures) (area-width .ensures .0) (c .before .before .area-height .ensures .0) refl
 
 pub back-run-spec : {M : Type 1} → statement M
 back-run-spec =

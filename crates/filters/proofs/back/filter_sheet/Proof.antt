@@ -21,7 +21,10 @@ same-length-3 : tie.Need-same-length-3
 same-length-3 c = search needs
 
 returns : tie.Need-returns
-returns c = (c .before .before .before .before .clear-both .ensures .0, (c .before .before .before .before .clear-both .ensures .1 ∙ ap (λ n. replicate n 0) (c .before .before .before .before .before .before .before .before .before .before .before .sheet-back .ensures .0), c .before .before .before .before .before .before .before .before .before .before .before .sheet-back .ensures .1))
+returns c =
+    let sheet-back = c .before .before .before .before .before .before .before .before .before .before .before .sheet-back in
+    let clear-both = c .before .before .before .before .clear-both in
+    (clear-both .ensures .0, (clear-both .ensures .1 ∙ ap (λ n. replicate n 0) (sheet-back .ensures .0), sheet-back .ensures .1))
 
 pub filter-sheet-spec : {M : Type 1} → statement M
 filter-sheet-spec =

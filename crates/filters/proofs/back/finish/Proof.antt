@@ -11,7 +11,10 @@ same-length : tie.Need-same-length
 same-length c = search needs
 
 returns : tie.Need-returns
-returns c = finish-rows (c .before .before .before .before .before .args .run) (c .before .before .before .before .before .pre .0) (c .before .before .before .before .before .pre .1 .0) (c .before .before .before .before .before .args .levels .now) (c .before .before .before .before .before .pre .1 .1) (c .before .before .continue-run .ensures)
+returns c =
+    let args = c .before .before .before .before .before .args in
+    let pre = c .before .before .before .before .before .pre in
+    finish-rows (args .run) (pre .0) (pre .1 .0) (args .levels .now) (pre .1 .1) (c .before .before .continue-run .ensures)
 
 pub finish-spec : {M : Type 1} → statement M
 finish-spec = tie.close (tie.spec continue-run-requires same-length returns)

@@ -18,13 +18,24 @@ highest-held-requires : tie.Need-highest-held-requires
 highest-held-requires c κs = search needs
 
 pack-frame-requires : tie.Need-pack-frame-requires
-pack-frame-requires c κs = (frame-canvas (c .before .before .before .before .before .before .before .args .run) (c .before .before .before .before .before .before .before .pre .0) (c .before .before .before .before .before .before .before .args .second .now) (c .before .before .before .before .before .before .before .pre .1 .0) (c .before .before .before .margin-of .result) (c .before .before .before .margin-of .ensures .0), c .before .before .before .before .before .before .before .pre .1 .1 .1)
+pack-frame-requires c κs =
+    let args = c .before .before .before .before .before .before .before .args in
+    let pre = c .before .before .before .before .before .before .before .pre in
+    let margin-of = c .before .before .before .margin-of in
+    (frame-canvas (args .run) (pre .0) (args .second .now) (pre .1 .0) (margin-of .result) (margin-of .ensures .0), pre .1 .1 .1)
 
 same-length : tie.Need-same-length
 same-length c = search needs
 
 returns : tie.Need-returns
-returns c = kept-is (c .before .before .before .before .before .before .before .before .before .before .args .run) (c .before .before .before .before .before .before .before .back-run .result) (c .before .before .before .before .before .before .before .before .before .before .pre .0) (c .before .before .before .before .before .before .before .back-run .ensures) (c .before .before .before .before .before .before .before .before .before .before .args .size) (c .before .before .before .before .before .before .before .before .before .before .pre .1 .1 .0) (c .before .before .before .before .before .below-held .result) (c .before .before .before .before .highest-held .result) (c .before .before .before .before .before .below-held .ensures) (c .before .before .before .before .highest-held .ensures) (c .before .before .before .before .before .before .before .before .before .before .args .second .now) (c .before .before .before .before .before .before .margin-of .result) (c .before .before .before .before .before .before .margin-of .ensures .0) (c .before .before .pack-frame .ensures)
+returns c =
+    let args = c .before .before .before .before .before .before .before .before .before .before .args in
+    let pre = c .before .before .before .before .before .before .before .before .before .before .pre in
+    let back-run = c .before .before .before .before .before .before .before .back-run in
+    let margin-of = c .before .before .before .before .before .before .margin-of in
+    let below-held = c .before .before .before .before .before .below-held in
+    let highest-held = c .before .before .before .before .highest-held in
+    kept-is (args .run) (back-run .result) (pre .0) (back-run .ensures) (args .size) (pre .1 .1 .0) (below-held .result) (highest-held .result) (below-held .ensures) (highest-held .ensures) (args .second .now) (margin-of .result) (margin-of .ensures .0) (c .before .before .pack-frame .ensures)
 
 pub pack-back-spec : {M : Type 1} → statement M
 pack-back-spec =

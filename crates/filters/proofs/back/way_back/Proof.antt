@@ -23,13 +23,31 @@ mark-requires : tie.Need-mark-requires
 mark-requires c κs = search needs
 
 finish-requires : tie.Need-finish-requires
-finish-requires c κs = back-ready (c .before .before .before .before .before .before .before .before .before .before .before .before .args .run) (c .before .before .before .before .before .before .before .before .before .before .before .before .pre .0 .taken) (c .before .before .before .before .before .before .before .before .before .before .before .before .args .size) (c .before .before .before .before .before .before .before .before .before .before .before .before .pre .1) (c .before .before .before .before .before .before .before .before .below-held .result) (c .before .before .before .before .before .before .before .highest-held .result) (c .before .before .before .before .before .before .before .before .below-held .ensures) (c .before .before .before .before .before .before .before .highest-held .ensures) (c .before .before .before .before .before .before .before .before .before .back-run .result) (c .before .before .before .before .before .before .before .before .before .back-run .ensures) (c .before .before .before .before .before .before .before .before .before .before .before .before .args .first .now) (c .before .before .before .before .before .before .where-one .result) (c .before .before .before .before .before .where-one2 .result) (c .before .before .before .before .before .before .where-one .ensures) (c .before .before .before .before .before .where-one2 .ensures) (c .before .before .before .mark .ensures) (c .before .before .before .before .before .before .before .before .before .before .before .before .pre .0 .first-size)
+finish-requires c κs =
+    let args = c .before .before .before .before .before .before .before .before .before .before .before .before .args in
+    let pre = c .before .before .before .before .before .before .before .before .before .before .before .before .pre in
+    let back-run = c .before .before .before .before .before .before .before .before .before .back-run in
+    let below-held = c .before .before .before .before .before .before .before .before .below-held in
+    let highest-held = c .before .before .before .before .before .before .before .highest-held in
+    let where-one = c .before .before .before .before .before .before .where-one in
+    let where-one2 = c .before .before .before .before .before .where-one2 in
+    let mark = c .before .before .before .mark in
+    back-ready (args .run) (pre .0 .taken) (args .size) (pre .1) (below-held .result) (highest-held .result) (below-held .ensures) (highest-held .ensures) (back-run .result) (back-run .ensures) (args .first .now) (where-one .result) (where-one2 .result) (where-one .ensures) (where-one2 .ensures) (mark .ensures) (pre .0 .first-size)
 
 same-length : tie.Need-same-length
 same-length c = search needs
 
 returns : tie.Need-returns
-returns c = back-finished (c .before .before .before .before .before .before .before .before .before .before .before .before .before .before .before .args .run) (c .before .before .before .before .before .before .before .before .before .before .before .before .before .before .before .pre .0 .taken) (c .before .before .before .before .before .before .before .before .before .before .before .before .before .before .before .args .size) (c .before .before .before .before .before .before .before .before .before .before .before .before .before .before .before .pre .1) (c .before .before .before .before .before .before .before .before .before .before .before .below-held .result) (c .before .before .before .before .before .before .before .before .before .before .highest-held .result) (c .before .before .before .before .before .before .before .before .before .before .before .below-held .ensures) (c .before .before .before .before .before .before .before .before .before .before .highest-held .ensures) (c .before .before .before .before .before .before .before .before .before .before .before .before .back-run .result) (c .before .before .before .before .before .before .before .before .before .before .before .before .back-run .ensures) (c .before .before .before .before .before .before .before .before .before .before .before .before .before .before .before .args .first .now) (c .before .before .before .before .before .before .before .before .before .where-one .result) (c .before .before .before .before .before .before .before .before .where-one2 .result) (c .before .before .before .before .before .before .before .before .before .where-one .ensures) (c .before .before .before .before .before .before .before .before .where-one2 .ensures) (c .before .before .before .before .before .before .mark .ensures) (c .before .before .finish .ensures)
+returns c =
+    let args = c .before .before .before .before .before .before .before .before .before .before .before .before .before .before .before .args in
+    let pre = c .before .before .before .before .before .before .before .before .before .before .before .before .before .before .before .pre in
+    let back-run = c .before .before .before .before .before .before .before .before .before .before .before .before .back-run in
+    let below-held = c .before .before .before .before .before .before .before .before .before .before .before .below-held in
+    let highest-held = c .before .before .before .before .before .before .before .before .before .before .highest-held in
+    let where-one = c .before .before .before .before .before .before .before .before .before .where-one in
+    let where-one2 = c .before .before .before .before .before .before .before .before .where-one2 in
+    let mark = c .before .before .before .before .before .before .mark in
+    back-finished (args .run) (pre .0 .taken) (args .size) (pre .1) (below-held .result) (highest-held .result) (below-held .ensures) (highest-held .ensures) (back-run .result) (back-run .ensures) (args .first .now) (where-one .result) (where-one2 .result) (where-one .ensures) (where-one2 .ensures) (mark .ensures) (c .before .before .finish .ensures)
 
 pub way-back-spec : {M : Type 1} → statement M
 way-back-spec =

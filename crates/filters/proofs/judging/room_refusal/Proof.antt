@@ -23,34 +23,62 @@ add-canvas-height-2 : tie.Need-add-canvas-height-2
 add-canvas-height-2 c = search needs
 
 returns : tie.Need-returns
-returns c = room-wide (c .before .before .args .width) (c .before .before .args .height) (c .before .before .args .cap) (c .before .before .args .side) (c .before .before .args .work) (c .before .before .args .spare) (c .before .before .args .room) (entriesOf (c .before .before .args .packed) (c .before .before .args .width)) (c .before .margin-of .result) (c .before .margin-of .ensures .0) (c .if1 .taken)
+returns c =
+    let args = c .before .before .args in
+    let margin-of = c .before .margin-of in
+    room-wide (args .width) (args .height) (args .cap) (args .side) (args .work) (args .spare) (args .room) (entriesOf (args .packed) (args .width)) (margin-of .result) (margin-of .ensures .0) (c .if1 .taken)
 
 returns-2 : tie.Need-returns-2
-returns-2 c = room-high (c .before .before .before .args .width) (c .before .before .before .args .height) (c .before .before .before .args .cap) (c .before .before .before .args .side) (c .before .before .before .args .work) (c .before .before .before .args .spare) (c .before .before .before .args .room) (entriesOf (c .before .before .before .args .packed) (c .before .before .before .args .width)) (c .before .before .margin-of .result) (c .before .before .margin-of .ensures .0) (omega arith) (c .if2 .taken)
+returns-2 c =
+    let args = c .before .before .before .args in
+    let margin-of = c .before .before .margin-of in
+    room-high (args .width) (args .height) (args .cap) (args .side) (args .work) (args .spare) (args .room) (entriesOf (args .packed) (args .width)) (margin-of .result) (margin-of .ensures .0) (omega arith) (c .if2 .taken)
 
 mul-if3 : tie.Need-mul-if3
-mul-if3 c = let s = product-small (c .before .before .before .args .height + (c .before .before .margin-of .result + c .before .before .margin-of .result)) (c .before .before .before .args .width + (c .before .before .margin-of .result + c .before .before .margin-of .result)) (omega arith) (omega arith) in omega arith
+mul-if3 c =
+    let args = c .before .before .before .args in
+    let margin-of = c .before .before .margin-of in
+    let s = product-small (args .height + (margin-of .result + margin-of .result)) (args .width + (margin-of .result + margin-of .result)) (omega arith) (omega arith) in
+    omega arith
 
 returns-3 : tie.Need-returns-3
-returns-3 c = room-work (c .before .before .before .before .args .width) (c .before .before .before .before .args .height) (c .before .before .before .before .args .cap) (c .before .before .before .before .args .side) (c .before .before .before .before .args .work) (c .before .before .before .before .args .spare) (c .before .before .before .before .args .room) (entriesOf (c .before .before .before .before .args .packed) (c .before .before .before .before .args .width)) (c .before .before .before .margin-of .result) (c .before .before .before .margin-of .ensures .0) (omega arith) (omega arith) (c .if3 .taken)
+returns-3 c =
+    let args = c .before .before .before .before .args in
+    let margin-of = c .before .before .before .margin-of in
+    room-work (args .width) (args .height) (args .cap) (args .side) (args .work) (args .spare) (args .room) (entriesOf (args .packed) (args .width)) (margin-of .result) (margin-of .ensures .0) (omega arith) (omega arith) (c .if3 .taken)
 
 mul-if4 : tie.Need-mul-if4
 mul-if4 c = search needs
 
 returns-4 : tie.Need-returns-4
-returns-4 c = room-spare (c .before .before .before .before .before .args .width) (c .before .before .before .before .before .args .height) (c .before .before .before .before .before .args .cap) (c .before .before .before .before .before .args .side) (c .before .before .before .before .before .args .work) (c .before .before .before .before .before .args .spare) (c .before .before .before .before .before .args .room) (entriesOf (c .before .before .before .before .before .args .packed) (c .before .before .before .before .before .args .width)) (c .before .before .before .before .margin-of .result) (c .before .before .before .before .margin-of .ensures .0) (omega arith) (omega arith) (c .before .if3 .left) (c .if4 .taken)
+returns-4 c =
+    let args = c .before .before .before .before .before .args in
+    let margin-of = c .before .before .before .before .margin-of in
+    room-spare (args .width) (args .height) (args .cap) (args .side) (args .work) (args .spare) (args .room) (entriesOf (args .packed) (args .width)) (margin-of .result) (margin-of .ensures .0) (omega arith) (omega arith) (c .before .if3 .left) (c .if4 .taken)
 
 row-entries-requires : tie.Need-row-entries-requires
 row-entries-requires c κs = search needs
 
 mul-if5 : tie.Need-mul-if5
-mul-if5 c = let s = product-small (c .before .before .before .before .before .before .args .height) (c .row-entries .result) (omega arith) (omega arith) in omega arith
+mul-if5 c =
+    let s = product-small (c .before .before .before .before .before .before .args .height) (c .row-entries .result) (omega arith) (omega arith) in
+    omega arith
 
 returns-5 : tie.Need-returns-5
-returns-5 c = room-out (c .before .before .before .before .before .before .before .args .width) (c .before .before .before .before .before .before .before .args .height) (c .before .before .before .before .before .before .before .args .cap) (c .before .before .before .before .before .before .before .args .side) (c .before .before .before .before .before .before .before .args .work) (c .before .before .before .before .before .before .before .args .spare) (c .before .before .before .before .before .before .before .args .room) (entriesOf (c .before .before .before .before .before .before .before .args .packed) (c .before .before .before .before .before .before .before .args .width)) (c .before .before .before .before .before .before .margin-of .result) (c .before .before .before .before .before .before .margin-of .ensures .0) (omega arith) (omega arith) (c .before .before .before .if3 .left) (c .before .before .if4 .left) (c .before .row-entries .result) (c .before .row-entries .ensures .0) (c .if5 .taken)
+returns-5 c =
+    let args = c .before .before .before .before .before .before .before .args in
+    let margin-of = c .before .before .before .before .before .before .margin-of in
+    let if3 = c .before .before .before .if3 in
+    let row-entries = c .before .row-entries in
+    room-out (args .width) (args .height) (args .cap) (args .side) (args .work) (args .spare) (args .room) (entriesOf (args .packed) (args .width)) (margin-of .result) (margin-of .ensures .0) (omega arith) (omega arith) (if3 .left) (c .before .before .if4 .left) (row-entries .result) (row-entries .ensures .0) (c .if5 .taken)
 
 returns-6 : tie.Need-returns-6
-returns-6 c = room-enough (c .before .before .before .before .before .before .before .args .width) (c .before .before .before .before .before .before .before .args .height) (c .before .before .before .before .before .before .before .args .cap) (c .before .before .before .before .before .before .before .args .side) (c .before .before .before .before .before .before .before .args .work) (c .before .before .before .before .before .before .before .args .spare) (c .before .before .before .before .before .before .before .args .room) (entriesOf (c .before .before .before .before .before .before .before .args .packed) (c .before .before .before .before .before .before .before .args .width)) (c .before .before .before .before .before .before .margin-of .result) (c .before .before .before .before .before .before .margin-of .ensures .0) (omega arith) (omega arith) (c .before .before .before .if3 .left) (c .before .before .if4 .left) (c .before .row-entries .result) (c .before .row-entries .ensures .0) (c .if5 .left)
+returns-6 c =
+    let args = c .before .before .before .before .before .before .before .args in
+    let margin-of = c .before .before .before .before .before .before .margin-of in
+    let if3 = c .before .before .before .if3 in
+    let row-entries = c .before .row-entries in
+    room-enough (args .width) (args .height) (args .cap) (args .side) (args .work) (args .spare) (args .room) (entriesOf (args .packed) (args .width)) (margin-of .result) (margin-of .ensures .0) (omega arith) (omega arith) (if3 .left) (c .before .before .if4 .left) (row-entries .result) (row-entries .ensures .0) (c .if5 .left)
 
 pub room-refusal-spec : {M : Type 1} → statement M
 room-refusal-spec =

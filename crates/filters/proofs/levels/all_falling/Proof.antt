@@ -22,7 +22,11 @@ same-length-2 : tie.Need-same-length-2
 same-length-2 c = search needs
 
 returns : tie.Need-returns
-returns c = c .before .before .before .before .fall .ensures ∙ ap (falling (c .before .before .before .before .before .before .before .before .before .before .before .before .before .before .args .run) (c .before .before .before .before .before .before .before .before .before .before .before .before .before .before .args .first .now) (c .before .before .before .before .before .before .before .before .before .before .before .before .before .before .args .cap + 1)) (c .before .before .before .before .before .before .before .before .before .clear .ensures)
+returns c =
+    let args = c .before .before .before .before .before .before .before .before .before .before .before .before .before .before .args in
+    let clear = c .before .before .before .before .before .before .before .before .before .clear in
+    let fall = c .before .before .before .before .fall in
+    fall .ensures ∙ ap (falling (args .run) (args .first .now) (args .cap + 1)) (clear .ensures)
 
 pub all-falling-spec : {M : Type 1} → statement M
 all-falling-spec =

@@ -17,7 +17,10 @@ cast-count : tie.Need-cast-count
 cast-count c = search needs
 
 rise-requires : tie.Need-rise-requires
-rise-requires c κs = (c .before .before .before .before .before .before .before .before .before .before .pre .0, (c .before .before .highest .ensures .least 4096 (c .before .before .before .before .before .before .before .before .before .before .pre .1 .0), ap length (c .before .before .before .before .before .clear .ensures) ∙ length-replicate _ _ ∙ c .before .before .before .before .before .before .before .before .before .before .pre .1 .1))
+rise-requires c κs =
+    let pre = c .before .before .before .before .before .before .before .before .before .before .pre in
+    let clear-call = c .before .before .before .before .before .clear in
+    (pre .0, (c .before .before .highest .ensures .least 4096 (pre .1 .0), ap length (clear-call .ensures) ∙ length-replicate _ _ ∙ pre .1 .1))
 
 same-length : tie.Need-same-length
 same-length c = search needs
@@ -26,7 +29,12 @@ same-length-2 : tie.Need-same-length-2
 same-length-2 c = search needs
 
 returns : tie.Need-returns
-returns c = record { most = c .before .before .before .before .before .before .before .highest .result; highest = c .before .before .before .before .before .before .before .highest .ensures; is = c .before .before .before .before .rise .ensures ∙ ap (rising (c .before .before .before .before .before .before .before .before .before .before .before .before .before .before .before .args .run) (c .before .before .before .before .before .before .before .before .before .before .before .before .before .before .before .args .first .now) (c .before .before .before .before .before .before .before .highest .result)) (c .before .before .before .before .before .before .before .before .before .before .clear .ensures) }
+returns c =
+    let args-call = c .before .before .before .before .before .before .before .before .before .before .before .before .before .before .before .args in
+    let clear-call = c .before .before .before .before .before .before .before .before .before .before .clear in
+    let highest-call = c .before .before .before .before .before .before .before .highest in
+    let rise-call = c .before .before .before .before .rise in
+    record { most = highest-call .result; highest = highest-call .ensures; is = rise-call .ensures ∙ ap (rising (args-call .run) (args-call .first .now) (highest-call .result)) (clear-call .ensures) }
 
 pub all-rising-spec : {M : Type 1} → statement M
 all-rising-spec =

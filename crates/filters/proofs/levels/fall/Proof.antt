@@ -19,13 +19,20 @@ sub-n : tie.Need-sub-n Inv-loop μ-loop
 sub-n c = search needs
 
 one-size-requires : tie.Need-one-size-requires Inv-loop μ-loop
-one-size-requires c κs = (c .before .before .before .loop .inv .given, (let b = c .before .before .before .loop .inv .below in let s = c .before .before .before .before .before .before .before .pre .1 .0 in omega arith, c .before .before .before .loop .inv .room))
+one-size-requires c κs =
+    let pre = c .before .before .before .before .before .before .before .pre in
+    let loop = c .before .before .before .loop in
+    (loop .inv .given, (let b = loop .inv .below in let s = pre .1 .0 in omega arith, loop .inv .room))
 
 loop-less : tie.Need-loop-less Inv-loop μ-loop
 loop-less c = omega (arith, c .before .before .before .before .before .before .before .loop-test .taken)
 
 loop-again : tie.Need-loop-again Inv-loop μ-loop
-loop-again c = falls-turn (c .before .before .before .before .before .before .before .before .loop .inv) (c .before .before .before .before .before .before .before .loop-test .taken) (c .before .before .before .before .one-size .ensures)
+loop-again c =
+    let loop = c .before .before .before .before .before .before .before .before .loop in
+    let loop-test = c .before .before .before .before .before .before .before .loop-test in
+    let one-size = c .before .before .before .before .one-size in
+    falls-turn (loop .inv) (loop-test .taken) (one-size .ensures)
 
 same-length : tie.Need-same-length Inv-loop μ-loop
 same-length c = c .before .loop .inv .given .second-size ∙ sym (c .before .before .before .before .before .pre .0 .second-size)

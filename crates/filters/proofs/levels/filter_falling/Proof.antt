@@ -21,7 +21,11 @@ same-length-3 : tie.Need-same-length-3
 same-length-3 c = search needs
 
 returns : tie.Need-returns
-returns c = (c .before .before .before .before .clear-both .ensures .0, (c .before .before .before .before .clear-both .ensures .1 ∙ ap (λ n. replicate n 0) (c .before .before .before .before .before .before .before .before .before .before .second .given), c .before .before .before .before .before .before .before .before .before .before .before .all-falling .ensures))
+returns c =
+    let all-falling = c .before .before .before .before .before .before .before .before .before .before .before .all-falling in
+    let second = c .before .before .before .before .before .before .before .before .before .before .second in
+    let clear-both = c .before .before .before .before .clear-both in
+    (clear-both .ensures .0, (clear-both .ensures .1 ∙ ap (λ n. replicate n 0) (second .given), all-falling .ensures))
 
 pub filter-falling-spec : {M : Type 1} → statement M
 filter-falling-spec =

@@ -18,7 +18,11 @@ same-length-2 : tie.Need-same-length-2
 same-length-2 c = search needs
 
 returns : tie.Need-returns
-returns c = after-back (c .before .before .before .before .before .before .before .before .before .before .before .before .args .size) (λ l. stored (c .before .before .before .before .before .before .before .before .before .before .before .before .args .run) l (c .before .before .before .before .before .before .before .before .before .before .before .before .args .size) (c .before .before .before .before .before .before .before .before .before .before .before .before .args .out .now)) (c .before .before .before .before .before .before .before .before .before .before .before .before .pre .0) (c .before .before .before .before .before .before .before .way-back .ensures) (c .before .before .store-held .ensures)
+returns c =
+    let args = c .before .before .before .before .before .before .before .before .before .before .before .before .args in
+    let pre = c .before .before .before .before .before .before .before .before .before .before .before .before .pre in
+    let way-back = c .before .before .before .before .before .before .before .way-back in
+    after-back (args .size) (λ l. stored (args .run) l (args .size) (args .out .now)) (pre .0) (way-back .ensures) (c .before .before .store-held .ensures)
 
 pub one-size-spec : {M : Type 1} → statement M
 one-size-spec =

@@ -17,7 +17,10 @@ loop-holds : tie.Need-loop-holds Inv-loop μ-loop
 loop-holds c = rises-start (c .before .before .before .pre .0) (c .before .before .before .pre .1 .1)
 
 one-size-requires : tie.Need-one-size-requires Inv-loop μ-loop
-one-size-requires c κs = (c .before .before .before .loop .inv .given, (let b = c .before .before .before .loop .inv .below in let s = c .before .before .before .before .before .before .before .pre .1 .0 in omega arith, c .before .before .before .loop .inv .room))
+one-size-requires c κs =
+    let pre = c .before .before .before .before .before .before .before .pre in
+    let loop = c .before .before .before .loop in
+    (loop .inv .given, (let b = loop .inv .below in let s = pre .1 .0 in omega arith, loop .inv .room))
 
 add-n : tie.Need-add-n Inv-loop μ-loop
 add-n c = search needs
@@ -26,7 +29,11 @@ loop-less : tie.Need-loop-less Inv-loop μ-loop
 loop-less c = omega (arith, c .before .before .before .before .before .before .before .loop-test .taken)
 
 loop-again : tie.Need-loop-again Inv-loop μ-loop
-loop-again c = rises-turn (c .before .before .before .before .before .before .before .before .loop .inv) (c .before .before .before .before .before .before .before .loop-test .taken) (c .before .before .before .before .one-size .ensures)
+loop-again c =
+    let loop = c .before .before .before .before .before .before .before .before .loop in
+    let loop-test = c .before .before .before .before .before .before .before .loop-test in
+    let one-size = c .before .before .before .before .one-size in
+    rises-turn (loop .inv) (loop-test .taken) (one-size .ensures)
 
 same-length : tie.Need-same-length Inv-loop μ-loop
 same-length c = c .before .loop .inv .given .second-size ∙ sym (c .before .before .before .before .before .pre .0 .second-size)

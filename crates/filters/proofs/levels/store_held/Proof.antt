@@ -25,13 +25,24 @@ add-value : tie.Need-add-value
 add-value c = search needs
 
 store-rows-requires : tie.Need-store-rows-requires
-store-rows-requires c κs = (frame-canvas (c .before .before .before .before .before .before .before .args .run) (c .before .before .before .before .before .before .before .pre .0) (c .before .before .before .before .before .before .before .args .second .now) (c .before .before .before .before .before .before .before .pre .1 .0) (c .before .before .before .margin-of .result) (c .before .before .before .margin-of .ensures .0), c .before .before .before .before .before .before .before .pre .1 .1 .1)
+store-rows-requires c κs =
+    let args = c .before .before .before .before .before .before .before .args in
+    let pre = c .before .before .before .before .before .before .before .pre in
+    let margin-of = c .before .before .before .margin-of in
+    (frame-canvas (args .run) (pre .0) (args .second .now) (pre .1 .0) (margin-of .result) (margin-of .ensures .0), pre .1 .1 .1)
 
 same-length : tie.Need-same-length
 same-length c = search needs
 
 returns : tie.Need-returns
-returns c = stored-is (c .before .before .before .before .before .before .before .before .before .before .args .run) (c .before .before .before .before .before .before .before .back-run .result) (c .before .before .before .before .before .before .before .before .before .before .pre .0) (c .before .before .before .before .before .before .before .back-run .ensures) (c .before .before .before .before .before .before .before .before .before .before .args .size) (c .before .before .before .before .before .before .before .before .before .before .pre .1 .1 .0) (c .before .before .before .before .before .below-held .result) (c .before .before .before .before .highest-held .result) (c .before .before .before .before .before .below-held .ensures) (c .before .before .before .before .highest-held .ensures) (c .before .before .before .before .before .before .before .before .before .before .args .second .now) (c .before .before .before .before .before .before .before .before .before .before .args .out .now) (c .before .before .before .before .before .before .margin-of .result) (c .before .before .before .before .before .before .margin-of .ensures .0) (c .before .before .store-rows .ensures)
+returns c =
+    let args = c .before .before .before .before .before .before .before .before .before .before .args in
+    let pre = c .before .before .before .before .before .before .before .before .before .before .pre in
+    let back-run = c .before .before .before .before .before .before .before .back-run in
+    let margin-of = c .before .before .before .before .before .before .margin-of in
+    let below-held = c .before .before .before .before .before .below-held in
+    let highest-held = c .before .before .before .before .highest-held in
+    stored-is (args .run) (back-run .result) (pre .0) (back-run .ensures) (args .size) (pre .1 .1 .0) (below-held .result) (highest-held .result) (below-held .ensures) (highest-held .ensures) (args .second .now) (args .out .now) (margin-of .result) (margin-of .ensures .0) (c .before .before .store-rows .ensures)
 
 pub store-held-spec : {M : Type 1} → statement M
 store-held-spec =

@@ -33,10 +33,21 @@ add-store-row-2 : tie.Need-add-store-row-2 Inv-loop μ-loop
 add-store-row-2 c = let s = frame-room (c .before .before .before .before .pre .0) (c .before .loop .row) (c .loop-test .taken) in omega arith
 
 mul-store-row-2 : tie.Need-mul-store-row-2 Inv-loop μ-loop
-mul-store-row-2 c = let s = row-end (c .before .before .before .before .before .args .width) (c .before .before .before .before .before .args .height) (c .before .before .loop .row) (c .before .loop-test .taken) in let e = c .before .before .before .before .before .pre .1 in let m = product-small (c .before .before .before .before .before .args .height) (c .before .before .before .before .before .args .width) (omega arith) (omega arith) in omega arith
+mul-store-row-2 c =
+    let args = c .before .before .before .before .before .args in
+    let pre = c .before .before .before .before .before .pre in
+    let s = row-end (args .width) (args .height) (c .before .before .loop .row) (c .before .loop-test .taken) in
+    let e = pre .1 in let m = product-small (args .height) (args .width) (omega arith) (omega arith) in omega arith
 
 store-row-requires : tie.Need-store-row-requires Inv-loop μ-loop
-store-row-requires c κs = let s = frame-room (c .before .before .before .before .before .pre .0) (c .before .before .loop .row) (c .before .loop-test .taken) in let t = row-end (c .before .before .before .before .before .args .width) (c .before .before .before .before .before .args .height) (c .before .before .loop .row) (c .before .loop-test .taken) in let long = c .before .before .loop .inv .1 .filled .size in (omega arith, omega arith)
+store-row-requires c κs =
+    let pre = c .before .before .before .before .before .pre in
+    let args = c .before .before .before .before .before .args in
+    let loop = c .before .before .loop in
+    let loop-test = c .before .loop-test in
+    let s = frame-room (pre .0) (loop .row) (loop-test .taken) in
+    let t = row-end (args .width) (args .height) (loop .row) (loop-test .taken) in
+    let long = loop .inv .1 .filled .size in (omega arith, omega arith)
 
 add-row : tie.Need-add-row Inv-loop μ-loop
 add-row c = search needs
@@ -45,7 +56,10 @@ loop-less : tie.Need-loop-less Inv-loop μ-loop
 loop-less c = omega arith
 
 loop-again : tie.Need-loop-again Inv-loop μ-loop
-loop-again c = (omega arith, stored-row (c .before .before .before .before .before .before .before .before .args .width) (c .before .before .before .before .before .before .before .before .args .margin) (c .before .before .before .before .before .before .before .before .args .levels .now) (c .before .before .before .before .before .before .before .before .args .low) (c .before .before .before .before .before .before .before .before .args .high) (c .before .before .before .before .before .before .before .before .args .value) (c .before .before .before .before .before .loop .inv .1) (c .before .before .store-row .ensures))
+loop-again c =
+    let args = c .before .before .before .before .before .before .before .before .args in
+    let loop = c .before .before .before .before .before .loop in
+    (omega arith, stored-row (args .width) (args .margin) (args .levels .now) (args .low) (args .high) (args .value) (loop .inv .1) (c .before .before .store-row .ensures))
 
 same-length : tie.Need-same-length Inv-loop μ-loop
 same-length c = c .before .loop .inv .1 .filled .size

@@ -11,13 +11,22 @@ write-pgm-requires : tie.Need-write-pgm-requires
 write-pgm-requires c κs = search needs
 
 returns : tie.Need-returns
-returns c = latest-none (c .before .before .before .before .before .args .run) (c .before .before .before .before .before .args .levels .now) _ (c .before .before .write-pgm .result .refusal) _ (c .before .before .write-pgm .ensures) (c .if1 .taken)
+returns c =
+    let args = c .before .before .before .before .before .args in
+    let write-pgm = c .before .before .write-pgm in
+    latest-none (args .run) (args .levels .now) _ (write-pgm .result .refusal) _ (write-pgm .ensures) (c .if1 .taken)
 
 returns-2 : tie.Need-returns-2
-returns-2 c = latest-above (c .before .before .before .before .before .before .args .run) (c .before .before .before .before .before .before .args .levels .now) _ (c .before .before .before .write-pgm .result .refusal) _ (c .before .before .before .write-pgm .ensures) (c .if2 .taken)
+returns-2 c =
+    let args = c .before .before .before .before .before .before .args in
+    let write-pgm = c .before .before .before .write-pgm in
+    latest-above (args .run) (args .levels .now) _ (write-pgm .result .refusal) _ (write-pgm .ensures) (c .if2 .taken)
 
 returns-3 : tie.Need-returns-3
-returns-3 c = latest-same (c .before .before .before .before .before .before .args .run) (c .before .before .before .before .before .before .args .levels .now) _ (c .before .before .before .write-pgm .result .refusal) _ (c .before .before .before .write-pgm .ensures) (c .before .if1 .left) (c .if2 .left)
+returns-3 c =
+    let args = c .before .before .before .before .before .before .args in
+    let write-pgm = c .before .before .before .write-pgm in
+    latest-same (args .run) (args .levels .now) _ (write-pgm .result .refusal) _ (write-pgm .ensures) (c .before .if1 .left) (c .if2 .left)
 
 pub picture-refusal-spec : {M : Type 1} → statement M
 picture-refusal-spec =

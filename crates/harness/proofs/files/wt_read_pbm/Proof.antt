@@ -16,10 +16,18 @@ read-pbm-requires : tie.Need-read-pbm-requires
 read-pbm-requires c κs = search needs
 
 returns : tie.Need-returns
-returns c = read-other (c .before .before .before .before .before .before .before .before .args .file .now) (c .before .before .before .before .before .before .before .before .args .out .now) (c .before .before .before .before .before .before .before .before .args .frame .now) (c .before .before .before .before .if1 .taken) _ (c .before .before .read-pbm .result .refusal) (c .before .before .read-pbm .result .width) (c .before .before .read-pbm .result .height) _ (c .before .before .read-pbm .ensures) (c .if2 .taken)
+returns c =
+    let args = c .before .before .before .before .before .before .before .before .args in
+    let if1 = c .before .before .before .before .if1 in
+    let read-pbm = c .before .before .read-pbm in
+    read-other (args .file .now) (args .out .now) (args .frame .now) (if1 .taken) _ (read-pbm .result .refusal) (read-pbm .result .width) (read-pbm .result .height) _ (read-pbm .ensures) (c .if2 .taken)
 
 returns-2 : tie.Need-returns-2
-returns-2 c = read-other-refuses (c .before .before .before .before .before .before .before .before .args .file .now) (c .before .before .before .before .before .before .before .before .args .out .now) (c .before .before .before .before .before .before .before .before .args .frame .now) (c .before .before .before .before .if1 .taken) _ (c .before .before .read-pbm .result .refusal) (c .before .before .read-pbm .result .width) (c .before .before .read-pbm .result .height) _ (c .before .before .read-pbm .ensures) (c .if2 .left)
+returns-2 c =
+    let args = c .before .before .before .before .before .before .before .before .args in
+    let if1 = c .before .before .before .before .if1 in
+    let read-pbm = c .before .before .read-pbm in
+    read-other-refuses (args .file .now) (args .out .now) (args .frame .now) (if1 .taken) _ (read-pbm .result .refusal) (read-pbm .result .width) (read-pbm .result .height) _ (read-pbm .ensures) (c .if2 .left)
 
 read-pbm-requires-2 : tie.Need-read-pbm-requires-2
 read-pbm-requires-2 c κs = search needs
@@ -28,13 +36,20 @@ same-length : tie.Need-same-length
 same-length c = search needs
 
 returns-3 : tie.Need-returns-3
-returns-3 c = read-refuses (c .before .before .before .before .before .before .before .before .before .before .args .file .now) (c .before .before .before .before .before .before .before .before .before .before .args .out .now) (c .before .before .before .before .before .before .before .before .before .before .args .frame .now) (c .before .before .before .before .before .before .if1 .left) (c .before .before .before .before .read-pbm2 .result .refusal) (c .before .before .before .before .read-pbm2 .result .width) (c .before .before .before .before .read-pbm2 .result .height) (c .before .before .before .before .read-pbm2 .last .1 .0) (c .before .before .before .before .read-pbm2 .ensures) (c .if3 .taken)
+returns-3 c =
+    let args = c .before .before .before .before .before .before .before .before .before .before .args in
+    let if1 = c .before .before .before .before .before .before .if1 in
+    let read-pbm2 = c .before .before .before .before .read-pbm2 in
+    read-refuses (args .file .now) (args .out .now) (args .frame .now) (if1 .left) (read-pbm2 .result .refusal) (read-pbm2 .result .width) (read-pbm2 .result .height) (read-pbm2 .last .1 .0) (read-pbm2 .ensures) (c .if3 .taken)
 
 slice-write-frame : tie.Need-slice-write-frame
 slice-write-frame c = search needs
 
 slice-write-frame-2 : tie.Need-slice-write-frame-2
-slice-write-frame-2 c = lt-length-sets (c .before .before .before .before .before .before .before .before .before .before .args .frame .now) 0 (c .before .before .before .before .read-pbm2 .result .width ∷ []) (let h : 1 < length (c .before .before .before .before .before .before .before .before .before .before .args .frame .now) = omega arith in h)
+slice-write-frame-2 c =
+    let args = c .before .before .before .before .before .before .before .before .before .before .args in
+    let read-pbm2 = c .before .before .before .before .read-pbm2 in
+    lt-length-sets (args .frame .now) 0 (read-pbm2 .result .width ∷ []) (let h : 1 < length (args .frame .now) = omega arith in h)
 
 same-length-2 : tie.Need-same-length-2
 same-length-2 c = search needs
@@ -43,7 +58,11 @@ same-length-3 : tie.Need-same-length-3
 same-length-3 c = search needs
 
 returns-4 : tie.Need-returns-4
-returns-4 c = read-accepts (c .before .before .before .before .before .before .before .before .before .before .args .file .now) (c .before .before .before .before .before .before .before .before .before .before .args .out .now) (c .before .before .before .before .before .before .before .before .before .before .args .frame .now) (c .before .before .before .before .before .before .if1 .left) (c .before .before .before .before .read-pbm2 .result .refusal) (c .before .before .before .before .read-pbm2 .result .width) (c .before .before .before .before .read-pbm2 .result .height) (c .before .before .before .before .read-pbm2 .last .1 .0) (c .before .before .before .before .read-pbm2 .ensures) (c .if3 .left)
+returns-4 c =
+    let args = c .before .before .before .before .before .before .before .before .before .before .args in
+    let if1 = c .before .before .before .before .before .before .if1 in
+    let read-pbm2 = c .before .before .before .before .read-pbm2 in
+    read-accepts (args .file .now) (args .out .now) (args .frame .now) (if1 .left) (read-pbm2 .result .refusal) (read-pbm2 .result .width) (read-pbm2 .result .height) (read-pbm2 .last .1 .0) (read-pbm2 .ensures) (c .if3 .left)
 
 pub wt-read-pbm-spec : {M : Type 1} → statement M
 wt-read-pbm-spec =

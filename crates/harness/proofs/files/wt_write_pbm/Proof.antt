@@ -10,10 +10,15 @@ sheet-refusal-requires : tie.Need-sheet-refusal-requires
 sheet-refusal-requires c κs = search needs
 
 returns : tie.Need-returns
-returns c = write-other-refuses (c .before .before .before .before .before .before .args .width) (c .before .before .before .before .before .before .args .height) (c .before .before .before .before .before .before .args .sheet .now) (c .before .before .before .before .before .before .args .out .now) (c .before .before .before .before .before .before .args .answer .now) (c .before .before .if1 .taken) (c .before .sheet-refusal .result) (c .if2 .taken) (c .before .sheet-refusal .ensures)
+returns c =
+    let args = c .before .before .before .before .before .before .args in
+    let sheet-refusal = c .before .sheet-refusal in
+    write-other-refuses (args .width) (args .height) (args .sheet .now) (args .out .now) (args .answer .now) (c .before .before .if1 .taken) (sheet-refusal .result) (c .if2 .taken) (sheet-refusal .ensures)
 
 returns-2 : tie.Need-returns-2
-returns-2 c = write-other (c .before .before .before .before .before .before .args .width) (c .before .before .before .before .before .before .args .height) (c .before .before .before .before .before .before .args .sheet .now) (c .before .before .before .before .before .before .args .out .now) (c .before .before .before .before .before .before .args .answer .now) (c .before .before .if1 .taken) (sym (c .before .sheet-refusal .ensures) ∙ c .if2 .left)
+returns-2 c =
+    let args = c .before .before .before .before .before .before .args in
+    write-other (args .width) (args .height) (args .sheet .now) (args .out .now) (args .answer .now) (c .before .before .if1 .taken) (sym (c .before .sheet-refusal .ensures) ∙ c .if2 .left)
 
 write-pbm-requires : tie.Need-write-pbm-requires
 write-pbm-requires c κs = search needs
@@ -22,7 +27,11 @@ same-length : tie.Need-same-length
 same-length c = search needs
 
 returns-3 : tie.Need-returns-3
-returns-3 c = write-refuses (c .before .before .before .before .before .before .before .before .before .args .width) (c .before .before .before .before .before .before .before .before .before .args .height) (c .before .before .before .before .before .before .before .before .before .args .sheet .now) (c .before .before .before .before .before .before .before .before .before .args .out .now) (c .before .before .before .before .before .before .before .before .before .args .answer .now) (c .before .before .before .before .before .if1 .left) (c .before .before .before .write-pbm .result .refusal) (c .before .before .before .write-pbm .result .length) (c .before .before .before .write-pbm .last .1 .1 .1 .0) (c .before .before .before .write-pbm .ensures) (c .if3 .taken)
+returns-3 c =
+    let args = c .before .before .before .before .before .before .before .before .before .args in
+    let if1 = c .before .before .before .before .before .if1 in
+    let write-pbm = c .before .before .before .write-pbm in
+    write-refuses (args .width) (args .height) (args .sheet .now) (args .out .now) (args .answer .now) (if1 .left) (write-pbm .result .refusal) (write-pbm .result .length) (write-pbm .last .1 .1 .1 .0) (write-pbm .ensures) (c .if3 .taken)
 
 slice-write-answer : tie.Need-slice-write-answer
 slice-write-answer c = search needs
@@ -34,7 +43,11 @@ same-length-3 : tie.Need-same-length-3
 same-length-3 c = search needs
 
 returns-4 : tie.Need-returns-4
-returns-4 c = write-accepts (c .before .before .before .before .before .before .before .before .before .args .width) (c .before .before .before .before .before .before .before .before .before .args .height) (c .before .before .before .before .before .before .before .before .before .args .sheet .now) (c .before .before .before .before .before .before .before .before .before .args .out .now) (c .before .before .before .before .before .before .before .before .before .args .answer .now) (c .before .before .before .before .before .if1 .left) (c .before .before .before .write-pbm .result .refusal) (c .before .before .before .write-pbm .result .length) (c .before .before .before .write-pbm .last .1 .1 .1 .0) (c .before .before .before .write-pbm .ensures) (c .if3 .left)
+returns-4 c =
+    let args = c .before .before .before .before .before .before .before .before .before .args in
+    let if1 = c .before .before .before .before .before .if1 in
+    let write-pbm = c .before .before .before .write-pbm in
+    write-accepts (args .width) (args .height) (args .sheet .now) (args .out .now) (args .answer .now) (if1 .left) (write-pbm .result .refusal) (write-pbm .result .length) (write-pbm .last .1 .1 .1 .0) (write-pbm .ensures) (c .if3 .left)
 
 pub wt-write-pbm-spec : {M : Type 1} → statement M
 wt-write-pbm-spec =

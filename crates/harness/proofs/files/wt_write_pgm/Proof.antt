@@ -10,7 +10,9 @@ holds-no-record-requires : tie.Need-holds-no-record-requires
 holds-no-record-requires c κs = search needs
 
 returns : tie.Need-returns
-returns c = picture-words (c .before .before .before .before .before .before .args .words .now) (c .before .before .before .before .before .before .args .levels .now) (c .before .before .before .before .before .before .args .out .now) (c .before .before .before .before .before .before .args .answer .now) (sym (c .before .holds-no-record .ensures) ∙ c .if1 .taken)
+returns c =
+    let args = c .before .before .before .before .before .before .args in
+    picture-words (args .words .now) (args .levels .now) (args .out .now) (args .answer .now) (sym (c .before .holds-no-record .ensures) ∙ c .if1 .taken)
 
 read-record-requires : tie.Need-read-record-requires
 read-record-requires c κs = (sym (c .before .holds-no-record .ensures) ∙ c .if1 .left)
@@ -19,7 +21,12 @@ picture-refusal-requires : tie.Need-picture-refusal-requires
 picture-refusal-requires c κs = search needs
 
 returns-2 : tie.Need-returns-2
-returns-2 c = picture-other (c .before .before .before .before .before .before .before .before .before .args .words .now) (c .before .before .before .before .before .before .before .before .before .args .levels .now) (c .before .before .before .before .before .before .before .before .before .args .out .now) (c .before .before .before .before .before .before .before .before .before .args .answer .now) (sym (c .before .before .before .before .holds-no-record .ensures) ∙ c .before .before .before .if1 .left) (c .before .before .read-record .result) (c .before .before .read-record .ensures) (c .before .if2 .taken) (c .picture-refusal .result) (c .picture-refusal .ensures)
+returns-2 c =
+    let args = c .before .before .before .before .before .before .before .before .before .args in
+    let holds-no-record = c .before .before .before .before .holds-no-record in
+    let if1 = c .before .before .before .if1 in
+    let read-record = c .before .before .read-record in
+    picture-other (args .words .now) (args .levels .now) (args .out .now) (args .answer .now) (sym (holds-no-record .ensures) ∙ if1 .left) (read-record .result) (read-record .ensures) (c .before .if2 .taken) (c .picture-refusal .result) (c .picture-refusal .ensures)
 
 write-pgm-requires : tie.Need-write-pgm-requires
 write-pgm-requires c κs = search needs
@@ -28,7 +35,14 @@ same-length : tie.Need-same-length
 same-length c = search needs
 
 returns-3 : tie.Need-returns-3
-returns-3 c = picture-refuses (c .before .before .before .before .before .before .before .before .before .before .before .before .before .args .words .now) (c .before .before .before .before .before .before .before .before .before .before .before .before .before .args .levels .now) (c .before .before .before .before .before .before .before .before .before .before .before .before .before .args .out .now) (c .before .before .before .before .before .before .before .before .before .before .before .before .before .args .answer .now) (sym (c .before .before .before .before .before .before .before .before .holds-no-record .ensures) ∙ c .before .before .before .before .before .before .before .if1 .left) (c .before .before .before .before .before .before .read-record .result) (c .before .before .before .before .before .before .read-record .ensures) (c .before .before .before .before .before .if2 .left) (c .before .before .before .write-pgm .result .refusal) (c .before .before .before .write-pgm .result .length) (c .before .before .before .write-pgm .last .1 .1 .0) (c .before .before .before .write-pgm .ensures) (c .if3 .taken)
+returns-3 c =
+    let args = c .before .before .before .before .before .before .before .before .before .before .before .before .before .args in
+    let holds-no-record = c .before .before .before .before .before .before .before .before .holds-no-record in
+    let if1 = c .before .before .before .before .before .before .before .if1 in
+    let read-record = c .before .before .before .before .before .before .read-record in
+    let if2 = c .before .before .before .before .before .if2 in
+    let write-pgm = c .before .before .before .write-pgm in
+    picture-refuses (args .words .now) (args .levels .now) (args .out .now) (args .answer .now) (sym (holds-no-record .ensures) ∙ if1 .left) (read-record .result) (read-record .ensures) (if2 .left) (write-pgm .result .refusal) (write-pgm .result .length) (write-pgm .last .1 .1 .0) (write-pgm .ensures) (c .if3 .taken)
 
 slice-write-answer : tie.Need-slice-write-answer
 slice-write-answer c = search needs
@@ -40,7 +54,14 @@ same-length-3 : tie.Need-same-length-3
 same-length-3 c = search needs
 
 returns-4 : tie.Need-returns-4
-returns-4 c = picture-accepts (c .before .before .before .before .before .before .before .before .before .before .before .before .before .args .words .now) (c .before .before .before .before .before .before .before .before .before .before .before .before .before .args .levels .now) (c .before .before .before .before .before .before .before .before .before .before .before .before .before .args .out .now) (c .before .before .before .before .before .before .before .before .before .before .before .before .before .args .answer .now) (sym (c .before .before .before .before .before .before .before .before .holds-no-record .ensures) ∙ c .before .before .before .before .before .before .before .if1 .left) (c .before .before .before .before .before .before .read-record .result) (c .before .before .before .before .before .before .read-record .ensures) (c .before .before .before .before .before .if2 .left) (c .before .before .before .write-pgm .result .refusal) (c .before .before .before .write-pgm .result .length) (c .before .before .before .write-pgm .last .1 .1 .0) (c .before .before .before .write-pgm .ensures) (c .if3 .left)
+returns-4 c =
+    let args = c .before .before .before .before .before .before .before .before .before .before .before .before .before .args in
+    let holds-no-record = c .before .before .before .before .before .before .before .before .holds-no-record in
+    let if1 = c .before .before .before .before .before .before .before .if1 in
+    let read-record = c .before .before .before .before .before .before .read-record in
+    let if2 = c .before .before .before .before .before .if2 in
+    let write-pgm = c .before .before .before .write-pgm in
+    picture-accepts (args .words .now) (args .levels .now) (args .out .now) (args .answer .now) (sym (holds-no-record .ensures) ∙ if1 .left) (read-record .result) (read-record .ensures) (if2 .left) (write-pgm .result .refusal) (write-pgm .result .length) (write-pgm .last .1 .1 .0) (write-pgm .ensures) (c .if3 .left)
 
 pub wt-write-pgm-spec : {M : Type 1} → statement M
 wt-write-pgm-spec =

@@ -12,22 +12,41 @@ sheet-refusal-requires : tie.Need-sheet-refusal-requires
 sheet-refusal-requires c κs = search needs
 
 returns : tie.Need-returns
-returns c = judge-sheet (c .before .before .before .before .before .args .width) (c .before .before .before .before .before .args .height) (c .before .before .before .before .before .args .sheet .now) (c .before .before .before .before .before .args .side) (c .before .before .before .before .before .args .cells .now) (erosionLater (c .before .before .before .before .before .args .width) (c .before .before .before .before .before .args .height) (c .before .before .before .before .before .args .levels .now)) (c .before .sheet-refusal .result) (c .if1 .taken) (c .before .sheet-refusal .ensures)
+returns c =
+    let args = c .before .before .before .before .before .args in
+    let sheet-refusal = c .before .sheet-refusal in
+    judge-sheet (args .width) (args .height) (args .sheet .now) (args .side) (args .cells .now) (erosionLater (args .width) (args .height) (args .levels .now)) (sheet-refusal .result) (c .if1 .taken) (sheet-refusal .ensures)
 
 element-refusal-requires : tie.Need-element-refusal-requires
 element-refusal-requires c κs = search needs
 
 returns-2 : tie.Need-returns-2
-returns-2 c = judge-cells (c .before .before .before .before .before .before .before .args .width) (c .before .before .before .before .before .before .before .args .height) (c .before .before .before .before .before .before .before .args .sheet .now) (c .before .before .before .before .before .before .before .args .side) (c .before .before .before .before .before .before .before .args .cells .now) (erosionLater (c .before .before .before .before .before .before .before .args .width) (c .before .before .before .before .before .before .before .args .height) (c .before .before .before .before .before .before .before .args .levels .now)) (sym (c .before .before .before .sheet-refusal .ensures) ∙ c .before .before .if1 .left) (c .before .element-refusal .result) (c .if2 .taken) (c .before .element-refusal .ensures)
+returns-2 c =
+    let args = c .before .before .before .before .before .before .before .args in
+    let sheet-refusal = c .before .before .before .sheet-refusal in
+    let element-refusal = c .before .element-refusal in
+    judge-cells (args .width) (args .height) (args .sheet .now) (args .side) (args .cells .now) (erosionLater (args .width) (args .height) (args .levels .now)) (sym (sheet-refusal .ensures) ∙ c .before .before .if1 .left) (element-refusal .result) (c .if2 .taken) (element-refusal .ensures)
 
 mul-if3 : tie.Need-mul-if3
-mul-if3 c = let j = both-judged (c .before .before .before .before .before .before .before .args .width) (c .before .before .before .before .before .before .before .args .height) (c .before .before .before .before .before .before .before .args .sheet .now) (c .before .before .before .before .before .before .before .args .side) (c .before .before .before .before .before .before .before .args .cells .now) (erosionLater (c .before .before .before .before .before .before .before .args .width) (c .before .before .before .before .before .before .before .args .height) (c .before .before .before .before .before .before .before .args .levels .now)) (sym (c .before .before .before .sheet-refusal .ensures) ∙ c .before .before .if1 .left) (sym (c .before .element-refusal .ensures) ∙ c .if2 .left) in let m = area-small (c .before .before .before .before .before .before .before .args .height) (c .before .before .before .before .before .before .before .args .width) (j .high .1) (j .wide .1) in omega arith
+mul-if3 c =
+    let args = c .before .before .before .before .before .before .before .args in
+    let sheet-refusal = c .before .before .before .sheet-refusal in
+    let j = both-judged (args .width) (args .height) (args .sheet .now) (args .side) (args .cells .now) (erosionLater (args .width) (args .height) (args .levels .now)) (sym (sheet-refusal .ensures) ∙ c .before .before .if1 .left) (sym (c .before .element-refusal .ensures) ∙ c .if2 .left) in
+    let m = area-small (args .height) (args .width) (j .high .1) (j .wide .1) in omega arith
 
 returns-3 : tie.Need-returns-3
-returns-3 c = judge-later (c .before .before .before .before .before .before .before .before .args .width) (c .before .before .before .before .before .before .before .before .args .height) (c .before .before .before .before .before .before .before .before .args .sheet .now) (c .before .before .before .before .before .before .before .before .args .side) (c .before .before .before .before .before .before .before .before .args .cells .now) (erosionLater (c .before .before .before .before .before .before .before .before .args .width) (c .before .before .before .before .before .before .before .before .args .height) (c .before .before .before .before .before .before .before .before .args .levels .now)) (sym (c .before .before .before .before .sheet-refusal .ensures) ∙ c .before .before .before .if1 .left) (sym (c .before .before .element-refusal .ensures) ∙ c .before .if2 .left) 10 (erosion-room (c .before .before .before .before .before .before .before .before .args .width) (c .before .before .before .before .before .before .before .before .args .height) (c .before .before .before .before .before .before .before .before .args .levels .now) (c .if3 .taken))
+returns-3 c =
+    let args = c .before .before .before .before .before .before .before .before .args in
+    let sheet-refusal = c .before .before .before .before .sheet-refusal in
+    let if1 = c .before .before .before .if1 in
+    judge-later (args .width) (args .height) (args .sheet .now) (args .side) (args .cells .now) (erosionLater (args .width) (args .height) (args .levels .now)) (sym (sheet-refusal .ensures) ∙ if1 .left) (sym (c .before .before .element-refusal .ensures) ∙ c .before .if2 .left) 10 (erosion-room (args .width) (args .height) (args .levels .now) (c .if3 .taken))
 
 returns-4 : tie.Need-returns-4
-returns-4 c = judge-later (c .before .before .before .before .before .before .before .before .args .width) (c .before .before .before .before .before .before .before .before .args .height) (c .before .before .before .before .before .before .before .before .args .sheet .now) (c .before .before .before .before .before .before .before .before .args .side) (c .before .before .before .before .before .before .before .before .args .cells .now) (erosionLater (c .before .before .before .before .before .before .before .before .args .width) (c .before .before .before .before .before .before .before .before .args .height) (c .before .before .before .before .before .before .before .before .args .levels .now)) (sym (c .before .before .before .before .sheet-refusal .ensures) ∙ c .before .before .before .if1 .left) (sym (c .before .before .element-refusal .ensures) ∙ c .before .if2 .left) 0 (erosion-accepted (c .before .before .before .before .before .before .before .before .args .width) (c .before .before .before .before .before .before .before .before .args .height) (c .before .before .before .before .before .before .before .before .args .levels .now) (c .if3 .left))
+returns-4 c =
+    let args = c .before .before .before .before .before .before .before .before .args in
+    let sheet-refusal = c .before .before .before .before .sheet-refusal in
+    let if1 = c .before .before .before .if1 in
+    judge-later (args .width) (args .height) (args .sheet .now) (args .side) (args .cells .now) (erosionLater (args .width) (args .height) (args .levels .now)) (sym (sheet-refusal .ensures) ∙ if1 .left) (sym (c .before .before .element-refusal .ensures) ∙ c .before .if2 .left) 0 (erosion-accepted (args .width) (args .height) (args .levels .now) (c .if3 .left))
 
 pub erosion-refusal-spec : {M : Type 1} → statement M
 erosion-refusal-spec =

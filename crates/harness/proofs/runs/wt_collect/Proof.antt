@@ -9,7 +9,9 @@ holds-no-record-requires : tie.Need-holds-no-record-requires
 holds-no-record-requires c κs = search needs
 
 returns : tie.Need-returns
-returns c = collect-words (c .before .before .before .before .before .args .words .now) (c .before .before .before .before .before .args .levels .now) (c .before .before .before .before .before .args .out .now) (sym (c .before .holds-no-record .ensures) ∙ c .if1 .taken)
+returns c =
+    let args = c .before .before .before .before .before .args in
+    collect-words (args .words .now) (args .levels .now) (args .out .now) (sym (c .before .holds-no-record .ensures) ∙ c .if1 .taken)
 
 read-record-requires : tie.Need-read-record-requires
 read-record-requires c κs = (sym (c .before .holds-no-record .ensures) ∙ c .if1 .left)
@@ -21,7 +23,13 @@ same-length : tie.Need-same-length
 same-length c = search needs
 
 returns-2 : tie.Need-returns-2
-returns-2 c = collect-answers (c .before .before .before .before .before .before .before .before .before .before .args .words .now) (c .before .before .before .before .before .before .before .before .before .before .args .levels .now) (c .before .before .before .before .before .before .before .before .before .before .args .out .now) (sym (c .before .before .before .before .before .before .holds-no-record .ensures) ∙ c .before .before .before .before .before .if1 .left) (c .before .before .before .before .read-record .result) (c .before .before .before .before .read-record .ensures) (c .before .before .collect .result) (c .before .before .collect .last .1 .1 .0) (c .before .before .collect .ensures)
+returns-2 c =
+    let args = c .before .before .before .before .before .before .before .before .before .before .args in
+    let holds-no-record = c .before .before .before .before .before .before .holds-no-record in
+    let if1 = c .before .before .before .before .before .if1 in
+    let read-record = c .before .before .before .before .read-record in
+    let collect = c .before .before .collect in
+    collect-answers (args .words .now) (args .levels .now) (args .out .now) (sym (holds-no-record .ensures) ∙ if1 .left) (read-record .result) (read-record .ensures) (collect .result) (collect .last .1 .1 .0) (collect .ensures)
 
 pub wt-collect-spec : {M : Type 1} → statement M
 wt-collect-spec =

@@ -14,13 +14,19 @@ same-length : tie.Need-same-length
 same-length c = search needs
 
 returns : tie.Need-returns
-returns c = answer-after (erosionRefusals (c .before .before .before .before .before .before .before .before .args .width) (c .before .before .before .before .before .before .before .before .args .height) (c .before .before .before .before .before .before .before .before .args .sheet .now) (c .before .before .before .before .before .before .before .before .args .side) (c .before .before .before .before .before .before .before .before .args .cells .now) (c .before .before .before .before .before .before .before .before .args .levels .now)) tt 55 (c .before .before .before .before .before .before .before .before .args .words .now) (c .before .erosion-refusal .result) (c .if2 .taken) (c .before .erosion-refusal .ensures)
+returns c =
+    let args = c .before .before .before .before .before .before .before .before .args in
+    let erosion-refusal = c .before .erosion-refusal in
+    answer-after (erosionRefusals (args .width) (args .height) (args .sheet .now) (args .side) (args .cells .now) (args .levels .now)) tt 55 (args .words .now) (erosion-refusal .result) (c .if2 .taken) (erosion-refusal .ensures)
 
 same-length-2 : tie.Need-same-length-2
 same-length-2 c = search needs
 
 returns-2 : tie.Need-returns-2
-returns-2 c = answer-other (erosionRefusals (c .before .before .before .before .before .before .before .before .args .width) (c .before .before .before .before .before .before .before .before .args .height) (c .before .before .before .before .before .before .before .before .args .sheet .now) (c .before .before .before .before .before .before .before .before .args .side) (c .before .before .before .before .before .before .before .before .args .cells .now) (c .before .before .before .before .before .before .before .before .args .levels .now)) tt 55 (c .before .before .before .before .before .before .before .before .args .words .now) (c .before .before .before .if1 .taken) (sym (c .before .erosion-refusal .ensures) ∙ c .if2 .left)
+returns-2 c =
+    let args = c .before .before .before .before .before .before .before .before .args in
+    let if1 = c .before .before .before .if1 in
+    answer-other (erosionRefusals (args .width) (args .height) (args .sheet .now) (args .side) (args .cells .now) (args .levels .now)) tt 55 (args .words .now) (if1 .taken) (sym (c .before .erosion-refusal .ensures) ∙ c .if2 .left)
 
 start-erosion-requires : tie.Need-start-erosion-requires
 start-erosion-requires c κs = search needs
@@ -29,7 +35,11 @@ same-length-3 : tie.Need-same-length-3
 same-length-3 c = search needs
 
 returns-3 : tie.Need-returns-3
-returns-3 c = start-refuses (erosionRefusals (c .before .before .before .before .before .before .before .before .before .before .args .width) (c .before .before .before .before .before .before .before .before .before .before .args .height) (c .before .before .before .before .before .before .before .before .before .before .args .sheet .now) (c .before .before .before .before .before .before .before .before .before .before .args .side) (c .before .before .before .before .before .before .before .before .before .before .args .cells .now) (c .before .before .before .before .before .before .before .before .before .before .args .levels .now)) tt (c .before .before .before .before .before .before .before .before .before .before .args .levels .now) (c .before .before .before .before .before .before .before .before .before .before .args .words .now) (c .before .before .before .before .before .if1 .left) (c .before .before .before .start-erosion .result .refusal) (c .before .before .before .start-erosion .result .run) (c .before .before .before .start-erosion .last .1 .1 .1 .1 .1 .0) (c .before .before .before .start-erosion .ensures) (c .if3 .taken)
+returns-3 c =
+    let args = c .before .before .before .before .before .before .before .before .before .before .args in
+    let if1 = c .before .before .before .before .before .if1 in
+    let start-erosion = c .before .before .before .start-erosion in
+    start-refuses (erosionRefusals (args .width) (args .height) (args .sheet .now) (args .side) (args .cells .now) (args .levels .now)) tt (args .levels .now) (args .words .now) (if1 .left) (start-erosion .result .refusal) (start-erosion .result .run) (start-erosion .last .1 .1 .1 .1 .1 .0) (start-erosion .ensures) (c .if3 .taken)
 
 write-record-requires : tie.Need-write-record-requires
 write-record-requires c κs = c .before .before .before .before .before .before .before .if1 .left
@@ -41,7 +51,13 @@ same-length-5 : tie.Need-same-length-5
 same-length-5 c = search needs
 
 returns-4 : tie.Need-returns-4
-returns-4 c = start-accepts (erosionRefusals (c .before .before .before .before .before .before .before .before .before .before .before .before .before .before .before .args .width) (c .before .before .before .before .before .before .before .before .before .before .before .before .before .before .before .args .height) (c .before .before .before .before .before .before .before .before .before .before .before .before .before .before .before .args .sheet .now) (c .before .before .before .before .before .before .before .before .before .before .before .before .before .before .before .args .side) (c .before .before .before .before .before .before .before .before .before .before .before .before .before .before .before .args .cells .now) (c .before .before .before .before .before .before .before .before .before .before .before .before .before .before .before .args .levels .now)) tt (c .before .before .before .before .before .before .before .before .before .before .before .before .before .before .before .args .levels .now) (c .before .before .before .before .before .before .before .before .before .before .before .before .before .before .before .args .words .now) (c .before .before .before .before .before .before .before .before .before .before .if1 .left) (c .before .before .before .before .before .before .before .before .start-erosion .result .refusal) (c .before .before .before .before .before .before .before .before .start-erosion .result .run) (c .before .before .before .before .before .before .before .before .start-erosion .last .1 .1 .1 .1 .1 .0) (c .before .before .before .before .before .before .before .before .start-erosion .ensures) (c .before .before .before .before .before .if3 .left) (c .before .before .write-record .last .1 .0) (c .before .before .write-record .ensures)
+returns-4 c =
+    let args = c .before .before .before .before .before .before .before .before .before .before .before .before .before .before .before .args in
+    let if1 = c .before .before .before .before .before .before .before .before .before .before .if1 in
+    let start-erosion = c .before .before .before .before .before .before .before .before .start-erosion in
+    let if3 = c .before .before .before .before .before .if3 in
+    let write-record = c .before .before .write-record in
+    start-accepts (erosionRefusals (args .width) (args .height) (args .sheet .now) (args .side) (args .cells .now) (args .levels .now)) tt (args .levels .now) (args .words .now) (if1 .left) (start-erosion .result .refusal) (start-erosion .result .run) (start-erosion .last .1 .1 .1 .1 .1 .0) (start-erosion .ensures) (if3 .left) (write-record .last .1 .0) (write-record .ensures)
 
 pub wt-start-erosion-spec : {M : Type 1} → statement M
 wt-start-erosion-spec =

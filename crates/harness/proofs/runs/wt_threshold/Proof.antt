@@ -9,7 +9,9 @@ holds-no-record-requires : tie.Need-holds-no-record-requires
 holds-no-record-requires c κs = search needs
 
 returns : tie.Need-returns
-returns c = threshold-words (c .before .before .before .before .before .args .words .now) (c .before .before .before .before .before .args .levels .now) (c .before .before .before .before .before .args .size) (c .before .before .before .before .before .args .out .now) (sym (c .before .holds-no-record .ensures) ∙ c .if1 .taken)
+returns c =
+    let args = c .before .before .before .before .before .args in
+    threshold-words (args .words .now) (args .levels .now) (args .size) (args .out .now) (sym (c .before .holds-no-record .ensures) ∙ c .if1 .taken)
 
 read-record-requires : tie.Need-read-record-requires
 read-record-requires c κs = (sym (c .before .holds-no-record .ensures) ∙ c .if1 .left)
@@ -21,7 +23,13 @@ same-length : tie.Need-same-length
 same-length c = search needs
 
 returns-2 : tie.Need-returns-2
-returns-2 c = threshold-answers (c .before .before .before .before .before .before .before .before .before .before .args .words .now) (c .before .before .before .before .before .before .before .before .before .before .args .levels .now) (c .before .before .before .before .before .before .before .before .before .before .args .size) (c .before .before .before .before .before .before .before .before .before .before .args .out .now) (sym (c .before .before .before .before .before .before .holds-no-record .ensures) ∙ c .before .before .before .before .before .if1 .left) (c .before .before .before .before .read-record .result) (c .before .before .before .before .read-record .ensures) (c .before .before .threshold .result) (c .before .before .threshold .last .1 .1 .1 .0) (c .before .before .threshold .ensures)
+returns-2 c =
+    let args = c .before .before .before .before .before .before .before .before .before .before .args in
+    let holds-no-record = c .before .before .before .before .before .before .holds-no-record in
+    let if1 = c .before .before .before .before .before .if1 in
+    let read-record = c .before .before .before .before .read-record in
+    let threshold = c .before .before .threshold in
+    threshold-answers (args .words .now) (args .levels .now) (args .size) (args .out .now) (sym (holds-no-record .ensures) ∙ if1 .left) (read-record .result) (read-record .ensures) (threshold .result) (threshold .last .1 .1 .1 .0) (threshold .ensures)
 
 pub wt-threshold-spec : {M : Type 1} → statement M
 wt-threshold-spec =

@@ -24,7 +24,9 @@ shared-slice-read-if1 : tie.Need-shared-slice-read-if1 Inv-loop μ-loop
 shared-slice-read-if1 c = search needs
 
 returns : tie.Need-returns Inv-loop μ-loop
-returns c = sym (sym (c .before .before .before .loop .inv) ∙ above-found 255 (c .before .before .before .before .args .words .now) (c .before .before .before .loop .i) (c .before .before .loop-test .taken) (c .if1 .taken))
+returns c =
+    let loop = c .before .before .before .loop in
+    sym (sym (loop .inv) ∙ above-found 255 (c .before .before .before .before .args .words .now) (loop .i) (c .before .before .loop-test .taken) (c .if1 .taken))
 
 add-i : tie.Need-add-i Inv-loop μ-loop
 add-i c = search needs
@@ -33,7 +35,9 @@ loop-less : tie.Need-loop-less Inv-loop μ-loop
 loop-less c = search needs
 
 loop-again : tie.Need-loop-again Inv-loop μ-loop
-loop-again c = sym (above-passed 255 (c .before .before .before .before .args .words .now) (c .before .before .before .loop .i) (c .before .before .loop-test .taken) (c .if1 .left)) ∙ c .before .before .before .loop .inv
+loop-again c =
+    let loop = c .before .before .before .loop in
+    sym (above-passed 255 (c .before .before .before .before .args .words .now) (loop .i) (c .before .before .loop-test .taken) (c .if1 .left)) ∙ loop .inv
 
 returns-2 : tie.Need-returns-2 Inv-loop μ-loop
 returns-2 c = sym (sym (c .before .loop .inv) ∙ above-end 255 (c .before .before .args .words .now) (c .before .loop .i) (c .loop-test .left))

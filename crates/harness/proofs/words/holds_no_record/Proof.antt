@@ -17,7 +17,9 @@ any-wide-cell-requires : tie.Need-any-wide-cell-requires
 any-wide-cell-requires c κs = search needs
 
 returns-3 : tie.Need-returns-3
-returns-3 c = no-record-cells (c .before .before .before .before .before .args .words .now) (c .before .before .before .if1 .left) (c .before .if2 .left) (c .any-wide-cell .result) (c .any-wide-cell .ensures)
+returns-3 c =
+    let if1 = c .before .before .before .if1 in
+    no-record-cells (c .before .before .before .before .before .args .words .now) (if1 .left) (c .before .if2 .left) (c .any-wide-cell .result) (c .any-wide-cell .ensures)
 
 pub holds-no-record-spec : {M : Type 1} → statement M
 holds-no-record-spec =

@@ -25,10 +25,14 @@ mul-byte-of : tie.Need-mul-byte-of Inv-loop μ-loop
 mul-byte-of c = search needs
 
 shared-slice-read-byte-of : tie.Need-shared-slice-read-byte-of Inv-loop μ-loop
-shared-slice-read-byte-of c = let s = record-length (c .before .before .before .before .args .words .now) (c .before .before .before .before .pre) in omega arith
+shared-slice-read-byte-of c =
+    let pre = c .before .before .before .before .pre in
+    let s = record-length (c .before .before .before .before .args .words .now) pre in omega arith
 
 byte-of-requires : tie.Need-byte-of-requires Inv-loop μ-loop
-byte-of-requires c κs = record-cell (c .before .before .before .before .args .words .now) (c .before .before .before .before .pre) (c .before .before .loop .k) (c .before .loop-test .taken)
+byte-of-requires c κs =
+    let pre = c .before .before .before .before .pre in
+    record-cell (c .before .before .before .before .args .words .now) pre (c .before .before .loop .k) (c .before .loop-test .taken)
 
 array-write-cells : tie.Need-array-write-cells Inv-loop μ-loop
 array-write-cells c = search needs
@@ -43,7 +47,9 @@ loop-again : tie.Need-loop-again Inv-loop μ-loop
 loop-again c = filling-turn 49 _ _ _ _ (c .before .before .before .loop .inv) (c .before .before .loop-test .taken) (c .byte-of .ensures)
 
 returns : tie.Need-returns Inv-loop μ-loop
-returns c = filling-end 49 _ _ _ (c .before .loop .inv) (c .loop-test .left) ∙ sym (record-cells (c .before .before .before .args .words .now) (c .before .before .before .pre))
+returns c =
+    let pre = c .before .before .before .pre in
+    filling-end 49 _ _ _ (c .before .loop .inv) (c .loop-test .left) ∙ sym (record-cells (c .before .before .before .args .words .now) pre)
 
 pub read-cells-spec : {M : Type 1} → statement M
 read-cells-spec =

@@ -15,22 +15,36 @@ byte-of-requires : tie.Need-byte-of-requires
 byte-of-requires c κs = record-kind (c .before .before .before .args .words .now) (c .before .before .before .pre)
 
 shared-slice-read-t5 : tie.Need-shared-slice-read-t5
-shared-slice-read-t5 c = record-word (c .before .before .before .before .before .args .words .now) (c .before .before .before .before .before .pre) 1 (omega arith)
+shared-slice-read-t5 c =
+    let pre = c .before .before .before .before .before .pre in
+    record-word (c .before .before .before .before .before .args .words .now) pre 1 (omega arith)
 
 shared-slice-read-t9 : tie.Need-shared-slice-read-t9
-shared-slice-read-t9 c = record-word (c .before .before .before .before .before .before .args .words .now) (c .before .before .before .before .before .before .pre) 2 (omega arith)
+shared-slice-read-t9 c =
+    let pre = c .before .before .before .before .before .before .pre in
+    record-word (c .before .before .before .before .before .before .args .words .now) pre 2 (omega arith)
 
 shared-slice-read-t12 : tie.Need-shared-slice-read-t12
-shared-slice-read-t12 c = record-word (c .before .before .before .before .before .before .before .args .words .now) (c .before .before .before .before .before .before .before .pre) 3 (omega arith)
+shared-slice-read-t12 c =
+    let pre = c .before .before .before .before .before .before .before .pre in
+    record-word (c .before .before .before .before .before .before .before .args .words .now) pre 3 (omega arith)
 
 shared-slice-read-t15 : tie.Need-shared-slice-read-t15
-shared-slice-read-t15 c = record-word (c .before .before .before .before .before .before .before .before .args .words .now) (c .before .before .before .before .before .before .before .before .pre) 4 (omega arith)
+shared-slice-read-t15 c =
+    let pre = c .before .before .before .before .before .before .before .before .pre in
+    record-word (c .before .before .before .before .before .before .before .before .args .words .now) pre 4 (omega arith)
 
 shared-slice-read-t18 : tie.Need-shared-slice-read-t18
-shared-slice-read-t18 c = record-word (c .before .before .before .before .before .before .before .before .before .args .words .now) (c .before .before .before .before .before .before .before .before .before .pre) 5 (omega arith)
+shared-slice-read-t18 c =
+    let pre = c .before .before .before .before .before .before .before .before .before .pre in
+    record-word (c .before .before .before .before .before .before .before .before .before .args .words .now) pre 5 (omega arith)
 
 returns : tie.Need-returns
-returns c = record-is (c .before .before .before .before .before .before .before .before .before .args .words .now) (c .before .before .before .before .before .before .before .before .before .pre) (c .before .before .before .before .before .before .before .read-cells .result) (c .before .before .before .before .before .byte-of .result) (c .before .before .before .before .before .before .before .read-cells .ensures) (c .before .before .before .before .before .byte-of .ensures)
+returns c =
+    let pre = c .before .before .before .before .before .before .before .before .before .pre in
+    let read-cells = c .before .before .before .before .before .before .before .read-cells in
+    let byte-of = c .before .before .before .before .before .byte-of in
+    record-is (c .before .before .before .before .before .before .before .before .before .args .words .now) pre (read-cells .result) (byte-of .result) (read-cells .ensures) (byte-of .ensures)
 
 pub read-record-spec : {M : Type 1} → statement M
 read-record-spec =

@@ -38,13 +38,21 @@ loop-less : tie.Need-loop-less Inv-loop μ-loop
 loop-less c = search needs
 
 loop-again : tie.Need-loop-again Inv-loop μ-loop
-loop-again c = stored-turn (c .before .before .before .before .args .words .now) (c .before .before .before .before .args .t1) (c .before .before .before .before .pre) (omega arith) (c .before .before .loop .k) (c .before .before .loop .words) (c .word-of .result) (c .before .before .loop .inv) (c .before .loop-test .taken) (c .word-of .ensures)
+loop-again c =
+    let args = c .before .before .before .before .args in
+    let pre = c .before .before .before .before .pre in
+    let loop = c .before .before .loop in
+    stored-turn (args .words .now) (args .t1) pre (omega arith) (loop .k) (loop .words) (c .word-of .result) (loop .inv) (c .before .loop-test .taken) (c .word-of .ensures)
 
 same-length : tie.Need-same-length Inv-loop μ-loop
 same-length c = c .before .loop .inv .size ∙ sym (c .before .before .before .pre)
 
 returns : tie.Need-returns Inv-loop μ-loop
-returns c = stored-all (c .before .before .before .args .words .now) (c .before .before .before .args .t1) (c .before .before .before .pre) (omega arith) (c .before .loop .k) (c .before .loop .words) (c .before .loop .inv) (c .loop-test .left)
+returns c =
+    let args = c .before .before .before .args in
+    let pre = c .before .before .before .pre in
+    let loop = c .before .loop in
+    stored-all (args .words .now) (args .t1) pre (omega arith) (loop .k) (loop .words) (loop .inv) (c .loop-test .left)
 
 pub write-cells-spec : {M : Type 1} → statement M
 write-cells-spec =

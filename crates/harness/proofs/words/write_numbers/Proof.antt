@@ -22,10 +22,14 @@ slice-write-words-4 : tie.Need-slice-write-words-4
 slice-write-words-4 c = search needs
 
 slice-write-words-5 : tie.Need-slice-write-words-5
-slice-write-words-5 c = lt-length-sets (c .args .words .now) 0 (c .args .kind ∷ c .args .width ∷ c .args .height ∷ c .args .cap ∷ []) (let h : 4 < length (c .args .words .now) = omega arith in h)
+slice-write-words-5 c =
+    let args = c .args in
+    lt-length-sets (args .words .now) 0 (args .kind ∷ args .width ∷ args .height ∷ args .cap ∷ []) (let h : 4 < length (args .words .now) = omega arith in h)
 
 slice-write-words-6 : tie.Need-slice-write-words-6
-slice-write-words-6 c = lt-length-sets (c .args .words .now) 0 (c .args .kind ∷ c .args .width ∷ c .args .height ∷ c .args .cap ∷ c .args .side ∷ []) (let h : 5 < length (c .args .words .now) = omega arith in h)
+slice-write-words-6 c =
+    let args = c .args in
+    lt-length-sets (args .words .now) 0 (args .kind ∷ args .width ∷ args .height ∷ args .cap ∷ args .side ∷ []) (let h : 5 < length (args .words .now) = omega arith in h)
 
 same-length : tie.Need-same-length
 same-length c = search needs

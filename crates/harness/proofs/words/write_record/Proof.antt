@@ -17,7 +17,12 @@ same-length : tie.Need-same-length
 same-length c = search needs
 
 returns : tie.Need-returns
-returns c = record-stored (c .before .before .before .before .before .before .before .before .before .before .before .args .run) (c .before .before .before .before .before .before .before .before .before .before .before .args .words .now) (c .before .before .before .before .before .before .write-numbers .last .1 .1 .1 .1 .1 .1 .0) (c .before .before .write-cells .last .1 .0) (c .before .before .before .before .before .before .before .before .word-of .result) (c .before .before .before .before .before .before .before .before .word-of .ensures) (c .before .before .before .before .before .before .write-numbers .ensures) (c .before .before .write-cells .ensures)
+returns c =
+    let args = c .before .before .before .before .before .before .before .before .before .before .before .args in
+    let word-of = c .before .before .before .before .before .before .before .before .word-of in
+    let write-numbers = c .before .before .before .before .before .before .write-numbers in
+    let write-cells = c .before .before .write-cells in
+    record-stored (args .run) (args .words .now) (write-numbers .last .1 .1 .1 .1 .1 .1 .0) (write-cells .last .1 .0) (word-of .result) (word-of .ensures) (write-numbers .ensures) (write-cells .ensures)
 
 pub write-record-spec : {M : Type 1} → statement M
 write-record-spec =

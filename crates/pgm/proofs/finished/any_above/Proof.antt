@@ -29,8 +29,11 @@ wide-requires c κs = search needs
 
 returns : tie.Need-returns Inv-loop μ-loop
 returns c =
+    let args = c .before .before .before .before .before .before .args in
+    let loop = c .before .before .before .before .loop in
+    let loop-test = c .before .before .before .loop-test in
     let e = c .before .wide .ensures in
-    sym (sym (c .before .before .before .before .loop .inv .1) ∙ above-found (c .before .before .before .before .before .before .args .limit) (c .before .before .before .before .before .before .args .levels .now) (c .before .before .before .before .loop .i) (c .before .before .before .loop-test .taken) (let l = c .if1 .taken in omega arith))
+    sym (sym (loop .inv .1) ∙ above-found (args .limit) (args .levels .now) (loop .i) (loop-test .taken) (let l = c .if1 .taken in omega arith))
 
 add-i : tie.Need-add-i Inv-loop μ-loop
 add-i c = search needs
@@ -40,11 +43,17 @@ loop-less c = search needs
 
 loop-again : tie.Need-loop-again Inv-loop μ-loop
 loop-again c =
+    let args = c .before .before .before .before .before .before .args in
+    let loop = c .before .before .before .before .loop in
+    let loop-test = c .before .before .before .loop-test in
     let e = c .before .wide .ensures in
-    (omega arith, sym (above-passed (c .before .before .before .before .before .before .args .limit) (c .before .before .before .before .before .before .args .levels .now) (c .before .before .before .before .loop .i) (c .before .before .before .loop-test .taken) (let l = c .if1 .left in omega arith)) ∙ c .before .before .before .before .loop .inv .1)
+    (omega arith, sym (above-passed (args .limit) (args .levels .now) (loop .i) (loop-test .taken) (let l = c .if1 .left in omega arith)) ∙ loop .inv .1)
 
 returns-2 : tie.Need-returns-2 Inv-loop μ-loop
-returns-2 c = sym (sym (c .before .loop .inv .1) ∙ above-end (c .before .before .before .args .limit) (c .before .before .before .args .levels .now) (c .before .loop .i) (c .loop-test .left))
+returns-2 c =
+    let args = c .before .before .before .args in
+    let loop = c .before .loop in
+    sym (sym (loop .inv .1) ∙ above-end (args .limit) (args .levels .now) (loop .i) (c .loop-test .left))
 
 pub any-above-spec : {M : Type 1} → statement M
 any-above-spec =

@@ -21,7 +21,10 @@ add-result : tie.Need-add-result
 add-result c = let s = sound (c .before .before .before .args .run) (c .before .before .before .pre) in let l = s .cap-small in omega arith
 
 returns-2 : tie.Need-returns-2
-returns-2 c = let s = sound (c .before .before .before .args .run) (c .before .before .before .pre) in let l = s .cap-small in (maximum-dilation (c .before .before .before .args .run) (c .before .if1 .left), omega arith)
+returns-2 c =
+    let args = c .before .before .before .args in
+    let pre = c .before .before .before .pre in
+    let s = sound (args .run) pre in let l = s .cap-small in (maximum-dilation (args .run) (c .before .if1 .left), omega arith)
 
 pub maximum-of-spec : {M : Type 1} → statement M
 maximum-of-spec = tie.close (tie.spec larger-requires returns add-result returns-2)

@@ -14,7 +14,9 @@ record-bad-requires : tie.Need-record-bad-requires
 record-bad-requires c κs = search needs
 
 returns : tie.Need-returns
-returns c = refuse-record (c .before .before .before .before .args .run) (c .before .before .before .before .args .levels .now) (c .before .before .before .before .args .out .now) (sym (c .before .record-bad .ensures) ∙ c .if1 .taken)
+returns c =
+    let args = c .before .before .before .before .args in
+    refuse-record (args .run) (args .levels .now) (args .out .now) (sym (c .before .record-bad .ensures) ∙ c .if1 .taken)
 
 maximum-of-requires : tie.Need-maximum-of-requires
 maximum-of-requires c κs = not-bad (c .before .before .before .before .args .run) (sym (c .before .record-bad .ensures) ∙ c .if1 .left) .0
@@ -23,31 +25,81 @@ any-above-requires : tie.Need-any-above-requires
 any-above-requires c κs = search needs
 
 returns-2 : tie.Need-returns-2
-returns-2 c = refuse-level (c .before .before .before .before .before .before .before .args .run) (c .before .before .before .before .before .before .before .args .levels .now) (c .before .before .before .before .before .before .before .args .out .now) (sym (c .before .before .before .before .record-bad .ensures) ∙ c .before .before .before .if1 .left) (ap (λ n. anyAbove n (c .before .before .before .before .before .before .before .args .levels .now)) (sym (c .before .before .maximum-of .ensures .0)) ∙ sym (c .before .any-above .ensures) ∙ c .if2 .taken)
+returns-2 c =
+    let args = c .before .before .before .before .before .before .before .args in
+    let record-bad = c .before .before .before .before .record-bad in
+    let if1 = c .before .before .before .if1 in
+    refuse-level (args .run) (args .levels .now) (args .out .now) (sym (record-bad .ensures) ∙ if1 .left) (ap (λ n. anyAbove n (args .levels .now)) (sym (c .before .before .maximum-of .ensures .0)) ∙ sym (c .before .any-above .ensures) ∙ c .if2 .taken)
 
 mul-if3 : tie.Need-mul-if3
 mul-if3 c =
-    let s = sound (c .before .before .before .before .before .before .before .before .args .run) (not-bad (c .before .before .before .before .before .before .before .before .args .run) (sym (c .before .before .before .before .before .record-bad .ensures) ∙ c .before .before .before .before .if1 .left) .0) in
-    let m = area-small (c .before .before .before .before .before .before .before .before .args .run .height) (c .before .before .before .before .before .before .before .before .args .run .width) (s .high .1) (s .wide .1) in
+    let args = c .before .before .before .before .before .before .before .before .args in
+    let record-bad = c .before .before .before .before .before .record-bad in
+    let if1 = c .before .before .before .before .if1 in
+    let s = sound (args .run) (not-bad (args .run) (sym (record-bad .ensures) ∙ if1 .left) .0) in
+    let m = area-small (args .run .height) (args .run .width) (s .high .1) (s .wide .1) in
     omega arith
 
 returns-3 : tie.Need-returns-3
-returns-3 c = refuse-count (c .before .before .before .before .before .before .before .before .before .args .run) (c .before .before .before .before .before .before .before .before .before .args .levels .now) (c .before .before .before .before .before .before .before .before .before .args .out .now) (sym (c .before .before .before .before .before .before .record-bad .ensures) ∙ c .before .before .before .before .before .if1 .left) (ap (λ n. anyAbove n (c .before .before .before .before .before .before .before .before .before .args .levels .now)) (sym (c .before .before .before .before .maximum-of .ensures .0)) ∙ sym (c .before .before .before .any-above .ensures) ∙ c .before .before .if2 .left) (c .if3 .taken)
+returns-3 c =
+    let args = c .before .before .before .before .before .before .before .before .before .args in
+    let record-bad = c .before .before .before .before .before .before .record-bad in
+    let if1 = c .before .before .before .before .before .if1 in
+    let maximum-of = c .before .before .before .before .maximum-of in
+    let any-above = c .before .before .before .any-above in
+    refuse-count (args .run) (args .levels .now) (args .out .now) (sym (record-bad .ensures) ∙ if1 .left) (ap (λ n. anyAbove n (args .levels .now)) (sym (maximum-of .ensures .0)) ∙ sym (any-above .ensures) ∙ c .before .before .if2 .left) (c .if3 .taken)
 
 rows-due-requires : tie.Need-rows-due-requires
-rows-due-requires c κs = not-bad (c .before .before .before .before .before .before .before .before .before .args .run) (sym (c .before .before .before .before .before .before .record-bad .ensures) ∙ c .before .before .before .before .before .if1 .left) .0
+rows-due-requires c κs =
+    let record-bad = c .before .before .before .before .before .before .record-bad in
+    let if1 = c .before .before .before .before .before .if1 in
+    not-bad (c .before .before .before .before .before .before .before .before .before .args .run) (sym (record-bad .ensures) ∙ if1 .left) .0
 
 pgm-length-requires : tie.Need-pgm-length-requires
-pgm-length-requires c κs = sound-picture (c .before .before .before .before .before .before .before .before .before .before .args .run) (c .before .before .before .before .before .before .before .before .before .before .args .levels .now) (sym (c .before .before .before .before .before .before .before .record-bad .ensures) ∙ c .before .before .before .before .before .before .if1 .left) (c .before .if3 .left) (c .before .before .before .before .before .maximum-of .result) (c .rows-due .result) (c .before .before .before .before .before .maximum-of .ensures .1) (c .rows-due .ensures .0)
+pgm-length-requires c κs =
+    let args = c .before .before .before .before .before .before .before .before .before .before .args in
+    let record-bad = c .before .before .before .before .before .before .before .record-bad in
+    let if1 = c .before .before .before .before .before .before .if1 in
+    let maximum-of = c .before .before .before .before .before .maximum-of in
+    sound-picture (args .run) (args .levels .now) (sym (record-bad .ensures) ∙ if1 .left) (c .before .if3 .left) (maximum-of .result) (c .rows-due .result) (maximum-of .ensures .1) (c .rows-due .ensures .0)
 
 returns-4 : tie.Need-returns-4
-returns-4 c = refuse-room (c .before .before .before .before .before .before .before .before .before .before .before .before .args .run) (c .before .before .before .before .before .before .before .before .before .before .before .before .args .levels .now) (c .before .before .before .before .before .before .before .before .before .before .before .before .args .out .now) (sym (c .before .before .before .before .before .before .before .before .before .record-bad .ensures) ∙ c .before .before .before .before .before .before .before .before .if1 .left) (ap (λ n. anyAbove n (c .before .before .before .before .before .before .before .before .before .before .before .before .args .levels .now)) (sym (c .before .before .before .before .before .before .before .maximum-of .ensures .0)) ∙ sym (c .before .before .before .before .before .before .any-above .ensures) ∙ c .before .before .before .before .before .if2 .left) (c .before .before .before .if3 .left) (c .before .pgm-length .result) (c .before .pgm-length .ensures ∙ ap₂ (λ m d. length (pgmText (c .before .before .before .before .before .before .before .before .before .before .before .before .args .run .width) (c .before .before .before .before .before .before .before .before .before .before .before .before .args .run .height) m (c .before .before .before .before .before .before .before .before .before .before .before .before .args .run .rows) d (c .before .before .before .before .before .before .before .before .before .before .before .before .args .levels .now))) (c .before .before .before .before .before .before .before .maximum-of .ensures .0) (c .before .before .rows-due .ensures .0)) (c .if4 .taken)
+returns-4 c =
+    let args = c .before .before .before .before .before .before .before .before .before .before .before .before .args in
+    let record-bad = c .before .before .before .before .before .before .before .before .before .record-bad in
+    let if1 = c .before .before .before .before .before .before .before .before .if1 in
+    let maximum-of = c .before .before .before .before .before .before .before .maximum-of in
+    let any-above = c .before .before .before .before .before .before .any-above in
+    let if2 = c .before .before .before .before .before .if2 in
+    let if3 = c .before .before .before .if3 in
+    let pgm-length = c .before .pgm-length in
+    refuse-room (args .run) (args .levels .now) (args .out .now) (sym (record-bad .ensures) ∙ if1 .left) (ap (λ n. anyAbove n (args .levels .now)) (sym (maximum-of .ensures .0)) ∙ sym (any-above .ensures) ∙ if2 .left) (if3 .left) (pgm-length .result) (pgm-length .ensures ∙ ap₂ (λ m d. length (pgmText (args .run .width) (args .run .height) m (args .run .rows) d (args .levels .now))) (maximum-of .ensures .0) (c .before .before .rows-due .ensures .0)) (c .if4 .taken)
 
 returns-5 : tie.Need-returns-5
-returns-5 c = refuse-rows (c .before .before .before .before .before .before .before .before .before .before .before .before .before .before .args .run) (c .before .before .before .before .before .before .before .before .before .before .before .before .before .before .args .levels .now) (c .before .before .before .before .before .before .before .before .before .before .before .before .before .before .args .out .now) (sym (c .before .before .before .before .before .before .before .before .before .before .before .record-bad .ensures) ∙ c .before .before .before .before .before .before .before .before .before .before .if1 .left) (ap (λ n. anyAbove n (c .before .before .before .before .before .before .before .before .before .before .before .before .before .before .args .levels .now)) (sym (c .before .before .before .before .before .before .before .before .before .maximum-of .ensures .0)) ∙ sym (c .before .before .before .before .before .before .before .before .any-above .ensures) ∙ c .before .before .before .before .before .before .before .if2 .left) (c .before .before .before .before .before .if3 .left) (c .before .before .before .pgm-length .result) (c .before .before .before .pgm-length .ensures ∙ ap₂ (λ m d. length (pgmText (c .before .before .before .before .before .before .before .before .before .before .before .before .before .before .args .run .width) (c .before .before .before .before .before .before .before .before .before .before .before .before .before .before .args .run .height) m (c .before .before .before .before .before .before .before .before .before .before .before .before .before .before .args .run .rows) d (c .before .before .before .before .before .before .before .before .before .before .before .before .before .before .args .levels .now))) (c .before .before .before .before .before .before .before .before .before .maximum-of .ensures .0) (c .before .before .before .before .rows-due .ensures .0)) (c .before .before .if4 .left) (λ e. c .if5 .taken (e ∙ sym (c .before .before .before .before .rows-due .ensures .0)))
+returns-5 c =
+    let args = c .before .before .before .before .before .before .before .before .before .before .before .before .before .before .args in
+    let record-bad = c .before .before .before .before .before .before .before .before .before .before .before .record-bad in
+    let if1 = c .before .before .before .before .before .before .before .before .before .before .if1 in
+    let maximum-of = c .before .before .before .before .before .before .before .before .before .maximum-of in
+    let any-above = c .before .before .before .before .before .before .before .before .any-above in
+    let if2 = c .before .before .before .before .before .before .before .if2 in
+    let if3 = c .before .before .before .before .before .if3 in
+    let rows-due = c .before .before .before .before .rows-due in
+    let pgm-length = c .before .before .before .pgm-length in
+    refuse-rows (args .run) (args .levels .now) (args .out .now) (sym (record-bad .ensures) ∙ if1 .left) (ap (λ n. anyAbove n (args .levels .now)) (sym (maximum-of .ensures .0)) ∙ sym (any-above .ensures) ∙ if2 .left) (if3 .left) (pgm-length .result) (pgm-length .ensures ∙ ap₂ (λ m d. length (pgmText (args .run .width) (args .run .height) m (args .run .rows) d (args .levels .now))) (maximum-of .ensures .0) (rows-due .ensures .0)) (c .before .before .if4 .left) (λ e. c .if5 .taken (e ∙ sym (rows-due .ensures .0)))
 
 returns-6 : tie.Need-returns-6
-returns-6 c = accept-picture (c .before .before .before .before .before .before .before .before .before .before .before .before .before .before .args .run) (c .before .before .before .before .before .before .before .before .before .before .before .before .before .before .args .levels .now) (c .before .before .before .before .before .before .before .before .before .before .before .before .before .before .args .out .now) (sym (c .before .before .before .before .before .before .before .before .before .before .before .record-bad .ensures) ∙ c .before .before .before .before .before .before .before .before .before .before .if1 .left) (ap (λ n. anyAbove n (c .before .before .before .before .before .before .before .before .before .before .before .before .before .before .args .levels .now)) (sym (c .before .before .before .before .before .before .before .before .before .maximum-of .ensures .0)) ∙ sym (c .before .before .before .before .before .before .before .before .any-above .ensures) ∙ c .before .before .before .before .before .before .before .if2 .left) (c .before .before .before .before .before .if3 .left) (c .before .before .before .pgm-length .result) (c .before .before .before .pgm-length .ensures ∙ ap₂ (λ m d. length (pgmText (c .before .before .before .before .before .before .before .before .before .before .before .before .before .before .args .run .width) (c .before .before .before .before .before .before .before .before .before .before .before .before .before .before .args .run .height) m (c .before .before .before .before .before .before .before .before .before .before .before .before .before .before .args .run .rows) d (c .before .before .before .before .before .before .before .before .before .before .before .before .before .before .args .levels .now))) (c .before .before .before .before .before .before .before .before .before .maximum-of .ensures .0) (c .before .before .before .before .rows-due .ensures .0)) (c .before .before .if4 .left) (c .if5 .left ∙ c .before .before .before .before .rows-due .ensures .0)
+returns-6 c =
+    let args = c .before .before .before .before .before .before .before .before .before .before .before .before .before .before .args in
+    let record-bad = c .before .before .before .before .before .before .before .before .before .before .before .record-bad in
+    let if1 = c .before .before .before .before .before .before .before .before .before .before .if1 in
+    let maximum-of = c .before .before .before .before .before .before .before .before .before .maximum-of in
+    let any-above = c .before .before .before .before .before .before .before .before .any-above in
+    let if2 = c .before .before .before .before .before .before .before .if2 in
+    let if3 = c .before .before .before .before .before .if3 in
+    let rows-due = c .before .before .before .before .rows-due in
+    let pgm-length = c .before .before .before .pgm-length in
+    accept-picture (args .run) (args .levels .now) (args .out .now) (sym (record-bad .ensures) ∙ if1 .left) (ap (λ n. anyAbove n (args .levels .now)) (sym (maximum-of .ensures .0)) ∙ sym (any-above .ensures) ∙ if2 .left) (if3 .left) (pgm-length .result) (pgm-length .ensures ∙ ap₂ (λ m d. length (pgmText (args .run .width) (args .run .height) m (args .run .rows) d (args .levels .now))) (maximum-of .ensures .0) (rows-due .ensures .0)) (c .before .before .if4 .left) (c .if5 .left ∙ rows-due .ensures .0)
 
 pub pgm-refusal-spec : {M : Type 1} → statement M
 pgm-refusal-spec =

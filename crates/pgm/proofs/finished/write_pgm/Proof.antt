@@ -16,19 +16,30 @@ same-length : tie.Need-same-length
 same-length c = search needs
 
 returns : tie.Need-returns
-returns c = picture-refuses (c .before .before .before .before .before .args .run) (c .before .before .before .before .before .args .levels .now) (c .before .before .before .before .before .args .out .now) _ (c .if1 .taken) (c .before .pgm-refusal .ensures)
+returns c =
+    let args = c .before .before .before .before .before .args in
+    picture-refuses (args .run) (args .levels .now) (args .out .now) _ (c .if1 .taken) (c .before .pgm-refusal .ensures)
 
 maximum-of-requires : tie.Need-maximum-of-requires
-maximum-of-requires c κs = not-bad (c .before .before .before .before .before .args .run) (picture-accepted (c .before .before .before .before .before .args .run) (c .before .before .before .before .before .args .levels .now) (c .before .before .before .before .before .args .out .now) (sym (c .before .pgm-refusal .ensures) ∙ c .if1 .left) .0) .0
+maximum-of-requires c κs =
+    let args = c .before .before .before .before .before .args in
+    not-bad (args .run) (picture-accepted (args .run) (args .levels .now) (args .out .now) (sym (c .before .pgm-refusal .ensures) ∙ c .if1 .left) .0) .0
 
 rows-due-requires : tie.Need-rows-due-requires
-rows-due-requires c κs = not-bad (c .before .before .before .before .before .before .args .run) (picture-accepted (c .before .before .before .before .before .before .args .run) (c .before .before .before .before .before .before .args .levels .now) (c .before .before .before .before .before .before .args .out .now) (sym (c .before .before .pgm-refusal .ensures) ∙ c .before .if1 .left) .0) .0
+rows-due-requires c κs =
+    let args = c .before .before .before .before .before .before .args in
+    not-bad (args .run) (picture-accepted (args .run) (args .levels .now) (args .out .now) (sym (c .before .before .pgm-refusal .ensures) ∙ c .before .if1 .left) .0) .0
 
 write-pgm-text-requires : tie.Need-write-pgm-text-requires
 write-pgm-text-requires c κs =
-    let q = picture-accepted (c .before .before .before .before .before .before .before .before .args .run) (c .before .before .before .before .before .before .before .before .args .levels .now) (c .before .before .before .before .before .before .before .before .args .out .now) (sym (c .before .before .before .before .pgm-refusal .ensures) ∙ c .before .before .before .if1 .left) in
-    let e = ap₂ (λ m d. pgmText (c .before .before .before .before .before .before .before .before .args .run .width) (c .before .before .before .before .before .before .before .before .args .run .height) m (c .before .before .before .before .before .before .before .before .args .run .rows) d (c .before .before .before .before .before .before .before .before .args .levels .now)) (c .before .before .maximum-of .ensures .0) (c .before .rows-due .ensures .0) in (
-      sound-picture (c .before .before .before .before .before .before .before .before .args .run) (c .before .before .before .before .before .before .before .before .args .levels .now) (q .0) (q .1) (c .before .before .maximum-of .result) (c .before .rows-due .result) (c .before .before .maximum-of .ensures .1) (c .before .rows-due .ensures .0),
+    let args = c .before .before .before .before .before .before .before .before .args in
+    let pgm-refusal = c .before .before .before .before .pgm-refusal in
+    let if1 = c .before .before .before .if1 in
+    let maximum-of = c .before .before .maximum-of in
+    let rows-due = c .before .rows-due in
+    let q = picture-accepted (args .run) (args .levels .now) (args .out .now) (sym (pgm-refusal .ensures) ∙ if1 .left) in
+    let e = ap₂ (λ m d. pgmText (args .run .width) (args .run .height) m (args .run .rows) d (args .levels .now)) (maximum-of .ensures .0) (rows-due .ensures .0) in (
+      sound-picture (args .run) (args .levels .now) (q .0) (q .1) (maximum-of .result) (rows-due .result) (maximum-of .ensures .1) (rows-due .ensures .0),
       rw e (q .2),
     )
 
@@ -37,9 +48,15 @@ same-length-2 c = search needs
 
 returns-2 : tie.Need-returns-2
 returns-2 c =
-    let e = ap₂ (λ m d. pgmText (c .before .before .before .before .before .before .before .before .before .before .before .args .run .width) (c .before .before .before .before .before .before .before .before .before .before .before .args .run .height) m (c .before .before .before .before .before .before .before .before .before .before .before .args .run .rows) d (c .before .before .before .before .before .before .before .before .before .before .before .args .levels .now)) (c .before .before .before .before .before .maximum-of .ensures .0) (c .before .before .before .before .rows-due .ensures .0) in
-    let w = c .before .before .write-pgm-text .ensures in
-    picture-accepts (c .before .before .before .before .before .before .before .before .before .before .before .args .run) (c .before .before .before .before .before .before .before .before .before .before .before .args .levels .now) (c .before .before .before .before .before .before .before .before .before .before .before .args .out .now) (sym (c .before .before .before .before .before .before .before .pgm-refusal .ensures) ∙ c .before .before .before .before .before .before .if1 .left) (c .before .before .write-pgm-text .result) _ (w .0 ∙ ap length e) (w .1 ∙ ap (λ t. begun t (c .before .before .before .before .before .before .before .before .before .before .before .args .out .now)) e)
+    let args = c .before .before .before .before .before .before .before .before .before .before .before .args in
+    let pgm-refusal = c .before .before .before .before .before .before .before .pgm-refusal in
+    let if1 = c .before .before .before .before .before .before .if1 in
+    let maximum-of = c .before .before .before .before .before .maximum-of in
+    let rows-due = c .before .before .before .before .rows-due in
+    let write-pgm-text = c .before .before .write-pgm-text in
+    let e = ap₂ (λ m d. pgmText (args .run .width) (args .run .height) m (args .run .rows) d (args .levels .now)) (maximum-of .ensures .0) (rows-due .ensures .0) in
+    let w = write-pgm-text .ensures in
+    picture-accepts (args .run) (args .levels .now) (args .out .now) (sym (pgm-refusal .ensures) ∙ if1 .left) (write-pgm-text .result) _ (w .0 ∙ ap length e) (w .1 ∙ ap (λ t. begun t (args .out .now)) e)
 
 pub write-pgm-spec : {M : Type 1} → statement M
 write-pgm-spec =

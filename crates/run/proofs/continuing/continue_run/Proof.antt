@@ -18,14 +18,19 @@ same-length : tie.Need-same-length
 same-length c = search needs
 
 returns : tie.Need-returns
-returns c = continue-refuses (c .before .before .before .before .before .args .run) (c .before .before .before .before .before .args .levels .now) (c .before .before .before .before .before .args .allowance) _ (c .refused .result) (c .refused .ensures) (c .before .if1 .taken) (c .before .before .continue-refusal .ensures)
+returns c =
+    let args = c .before .before .before .before .before .args in
+    continue-refuses (args .run) (args .levels .now) (args .allowance) _ (c .refused .result) (c .refused .ensures) (c .before .if1 .taken) (c .before .before .continue-refusal .ensures)
 
 rows-due-requires : tie.Need-rows-due-requires
-rows-due-requires c κs = not-bad (c .before .before .before .before .args .run) (continue-accepted (c .before .before .before .before .args .run) (c .before .before .before .before .args .levels .now) (c .before .before .before .before .args .allowance) (sym (c .before .continue-refusal .ensures) ∙ c .if1 .left) .0) .0
+rows-due-requires c κs =
+    let args = c .before .before .before .before .args in
+    not-bad (args .run) (continue-accepted (args .run) (args .levels .now) (args .allowance) (sym (c .before .continue-refusal .ensures) ∙ c .if1 .left) .0) .0
 
 sub-lesser : tie.Need-sub-lesser
 sub-lesser c =
-    let b = not-bad (c .before .before .before .before .before .args .run) (continue-accepted (c .before .before .before .before .before .args .run) (c .before .before .before .before .before .args .levels .now) (c .before .before .before .before .before .args .allowance) (sym (c .before .before .continue-refusal .ensures) ∙ c .before .if1 .left) .0) .1 in
+    let args = c .before .before .before .before .before .args in
+    let b = not-bad (args .run) (continue-accepted (args .run) (args .levels .now) (args .allowance) (sym (c .before .before .continue-refusal .ensures) ∙ c .before .if1 .left) .0) .1 in
     let e = c .rows-due .ensures .0 in
     omega arith
 
@@ -34,8 +39,11 @@ lesser-requires c κs = search needs
 
 work-rows-requires : tie.Need-work-rows-requires
 work-rows-requires c κs =
-    let q = continue-accepted (c .before .before .before .before .before .before .before .args .run) (c .before .before .before .before .before .before .before .args .levels .now) (c .before .before .before .before .before .before .before .args .allowance) (sym (c .before .before .before .before .continue-refusal .ensures) ∙ c .before .before .before .if1 .left) in
-    let b = not-bad (c .before .before .before .before .before .before .before .args .run) (q .0) in
+    let args = c .before .before .before .before .before .before .before .args in
+    let continue-refusal = c .before .before .before .before .continue-refusal in
+    let if1 = c .before .before .before .if1 in
+    let q = continue-accepted (args .run) (args .levels .now) (args .allowance) (sym (continue-refusal .ensures) ∙ if1 .left) in
+    let b = not-bad (args .run) (q .0) in
     let e = c .before .before .rows-due .ensures .0 in
     let l = c .before .lesser .ensures in
     let h = b .1 in
@@ -43,9 +51,14 @@ work-rows-requires c κs =
 
 add-with-rows : tie.Need-add-with-rows
 add-with-rows c =
-    let b = not-bad (c .before .before .before .before .before .before .before .before .before .before .args .run) (continue-accepted (c .before .before .before .before .before .before .before .before .before .before .args .run) (c .before .before .before .before .before .before .before .before .before .before .args .levels .now) (c .before .before .before .before .before .before .before .before .before .before .args .allowance) (sym (c .before .before .before .before .before .before .before .continue-refusal .ensures) ∙ c .before .before .before .before .before .before .if1 .left) .0) .1 in
-    let e = c .before .before .before .before .before .rows-due .ensures in
-    let l = c .before .before .before .before .lesser .ensures in
+    let args = c .before .before .before .before .before .before .before .before .before .before .args in
+    let continue-refusal = c .before .before .before .before .before .before .before .continue-refusal in
+    let if1 = c .before .before .before .before .before .before .if1 in
+    let rows-due = c .before .before .before .before .before .rows-due in
+    let lesser = c .before .before .before .before .lesser in
+    let b = not-bad (args .run) (continue-accepted (args .run) (args .levels .now) (args .allowance) (sym (continue-refusal .ensures) ∙ if1 .left) .0) .1 in
+    let e = rows-due .ensures in
+    let l = lesser .ensures in
     omega arith
 
 with-rows-requires : tie.Need-with-rows-requires
@@ -53,9 +66,14 @@ with-rows-requires c κs = search needs
 
 add-t12 : tie.Need-add-t12
 add-t12 c =
-    let b = not-bad (c .before .before .before .before .before .before .before .before .before .before .before .args .run) (continue-accepted (c .before .before .before .before .before .before .before .before .before .before .before .args .run) (c .before .before .before .before .before .before .before .before .before .before .before .args .levels .now) (c .before .before .before .before .before .before .before .before .before .before .before .args .allowance) (sym (c .before .before .before .before .before .before .before .before .continue-refusal .ensures) ∙ c .before .before .before .before .before .before .before .if1 .left) .0) .1 in
-    let e = c .before .before .before .before .before .before .rows-due .ensures in
-    let l = c .before .before .before .before .before .lesser .ensures in
+    let args = c .before .before .before .before .before .before .before .before .before .before .before .args in
+    let continue-refusal = c .before .before .before .before .before .before .before .before .continue-refusal in
+    let if1 = c .before .before .before .before .before .before .before .if1 in
+    let rows-due = c .before .before .before .before .before .before .rows-due in
+    let lesser = c .before .before .before .before .before .lesser in
+    let b = not-bad (args .run) (continue-accepted (args .run) (args .levels .now) (args .allowance) (sym (continue-refusal .ensures) ∙ if1 .left) .0) .1 in
+    let e = rows-due .ensures in
+    let l = lesser .ensures in
     omega arith
 
 same-length-2 : tie.Need-same-length-2
@@ -63,8 +81,14 @@ same-length-2 c = search needs
 
 returns-2 : tie.Need-returns-2
 returns-2 c =
-    continue-accepts (c .before .before .before .before .before .before .before .before .before .before .before .args .run) (c .before .before .before .before .before .before .before .before .before .before .before .args .levels .now) (c .before .before .before .before .before .before .before .before .before .before .before .args .allowance) (sym (c .before .before .before .before .before .before .before .before .continue-refusal .ensures) ∙ c .before .before .before .before .before .before .before .if1 .left) (c .with-rows .result) (c .before .before .before .work-rows .last .1 .0) (c .before .before .before .before .before .lesser .result) (c .before .before .before .before .before .before .rows-due .result)
-    (c .before .before .before .before .before .lesser .ensures ∙ ap (λ n. min (c .before .before .before .before .before .before .before .before .before .before .before .args .allowance) (n - c .before .before .before .before .before .before .before .before .before .before .before .args .run .rows)) (c .before .before .before .before .before .before .rows-due .ensures .0)) (c .before .before .before .before .before .before .rows-due .ensures .0) (c .with-rows .ensures) (c .before .before .before .work-rows .ensures)
+    let args = c .before .before .before .before .before .before .before .before .before .before .before .args in
+    let continue-refusal = c .before .before .before .before .before .before .before .before .continue-refusal in
+    let if1 = c .before .before .before .before .before .before .before .if1 in
+    let rows-due = c .before .before .before .before .before .before .rows-due in
+    let lesser = c .before .before .before .before .before .lesser in
+    let work-rows = c .before .before .before .work-rows in
+    continue-accepts (args .run) (args .levels .now) (args .allowance) (sym (continue-refusal .ensures) ∙ if1 .left) (c .with-rows .result) (work-rows .last .1 .0) (lesser .result) (rows-due .result)
+    (lesser .ensures ∙ ap (λ n. min (args .allowance) (n - args .run .rows)) (rows-due .ensures .0)) (rows-due .ensures .0) (c .with-rows .ensures) (work-rows .ensures)
 
 pub continue-run-spec : {M : Type 1} → statement M
 continue-run-spec =

@@ -16,7 +16,9 @@ turned-cells-requires : tie.Need-turned-cells-requires
 turned-cells-requires c κs = search needs
 
 returns-2 : tie.Need-returns-2
-returns-2 c = rw (ne-eqb (c .before .before .before .before .before .args .run .kind) 1 (c .before .if1 .left)) (c .turned-cells .ensures ∙ ap turned (c .before .before .before .rows-of .ensures))
+returns-2 c =
+    let rows-of = c .before .before .before .rows-of in
+    rw (ne-eqb (c .before .before .before .before .before .args .run .kind) 1 (c .before .if1 .left)) (c .turned-cells .ensures ∙ ap turned (rows-of .ensures))
 
 pub scan-cells-spec : {M : Type 1} → statement M
 scan-cells-spec = tie.close (tie.spec rows-of-requires returns turned-cells-requires returns-2)

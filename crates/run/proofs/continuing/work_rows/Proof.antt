@@ -21,15 +21,23 @@ beyond-of-requires : tie.Need-beyond-of-requires
 beyond-of-requires c κs = search needs
 
 sub-reach : tie.Need-sub-reach
-sub-reach c = let s = sound (c .before .before .before .before .before .before .args .run) (c .before .before .before .before .before .before .pre .0) in let b = side-bounds (c .before .before .before .before .before .before .args .run .side) (s .side-is) in omega arith
+sub-reach c =
+    let args = c .before .before .before .before .before .before .args in
+    let pre = c .before .before .before .before .before .before .pre in
+    let s = sound (args .run) (pre .0) in let b = side-bounds (args .run .side) (s .side-is) in omega arith
 
 scan-rows-requires : tie.Need-scan-rows-requires
 scan-rows-requires c κs =
-    let s = sound (c .before .before .before .before .before .before .before .args .run) (c .before .before .before .before .before .before .before .pre .0) in
-    let h = c .before .before .before .before .area-height .ensures .0 in
-    let l = c .before .before .before .before .before .before .before .pre .1 .1 in (
-      work-lent (c .before .before .before .before .before .before .before .args .run) s (c .before .before .before .before .before .before .before .args .levels .now) (c .before .before .before .before .before .before .before .pre .1 .0) _ _ (c .before .before .before .before .before .area-width .ensures .0) h,
-      (omega arith, rw (c .before .before .before .scan-cells .ensures) (scan-reaches (c .before .before .before .before .before .before .before .args .run) s)),
+    let args = c .before .before .before .before .before .before .before .args in
+    let pre = c .before .before .before .before .before .before .before .pre in
+    let area-width = c .before .before .before .before .before .area-width in
+    let area-height = c .before .before .before .before .area-height in
+    let scan-cells = c .before .before .before .scan-cells in
+    let s = sound (args .run) (pre .0) in
+    let h = area-height .ensures .0 in
+    let l = pre .1 .1 in (
+      work-lent (args .run) s (args .levels .now) (pre .1 .0) _ _ (area-width .ensures .0) h,
+      (omega arith, rw (scan-cells .ensures) (scan-reaches (args .run) s)),
     )
 
 same-length : tie.Need-same-length
@@ -37,8 +45,14 @@ same-length c = search needs
 
 returns : tie.Need-returns
 returns c =
-    work-rows (c .before .before .before .before .before .before .before .before .before .before .args .run) (sound (c .before .before .before .before .before .before .before .before .before .before .args .run) (c .before .before .before .before .before .before .before .before .before .before .pre .0)) (c .before .before .before .before .before .before .before .before .before .before .args .levels .now) (c .before .before .before .before .before .before .before .before .before .before .pre .1 .0) _ _ (c .before .before .before .before .before .before .before .before .area-width .ensures .0) (c .before .before .before .before .before .before .before .area-height .ensures .0) _ _
-    (c .before .before .before .before .before .beyond-of .ensures) (c .before .before .before .before .before .before .scan-cells .ensures) (c .before .before .before .before .before .before .before .before .before .before .args .run .rows) (c .before .before .before .before .before .before .before .before .before .before .args .count) _ (c .before .before .scan-rows .ensures)
+    let args = c .before .before .before .before .before .before .before .before .before .before .args in
+    let pre = c .before .before .before .before .before .before .before .before .before .before .pre in
+    let area-width = c .before .before .before .before .before .before .before .before .area-width in
+    let area-height = c .before .before .before .before .before .before .before .area-height in
+    let scan-cells = c .before .before .before .before .before .before .scan-cells in
+    let beyond-of = c .before .before .before .before .before .beyond-of in
+    work-rows (args .run) (sound (args .run) (pre .0)) (args .levels .now) (pre .1 .0) _ _ (area-width .ensures .0) (area-height .ensures .0) _ _
+    (beyond-of .ensures) (scan-cells .ensures) (args .run .rows) (args .count) _ (c .before .before .scan-rows .ensures)
 
 pub work-rows-spec : {M : Type 1} → statement M
 work-rows-spec =

@@ -34,8 +34,9 @@ add-copy-row-2 c = let s = frame-room (c .before .before .before .before .pre .0
 
 mul-copy-row-2 : tie.Need-mul-copy-row-2 Inv-loop μ-loop
 mul-copy-row-2 c =
-    let start = c .before .before .before .before .before in
-    let s = row-end (start .args .width) (start .args .height) (c .before .before .loop .row) (c .before .loop-test .taken) in let e = start .pre .1 in omega arith
+    let args = c .before .before .before .before .before .args in
+    let pre = c .before .before .before .before .before .pre in
+    let s = row-end (args .width) (args .height) (c .before .before .loop .row) (c .before .loop-test .taken) in let e = pre .1 in omega arith
 
 copy-row-requires : tie.Need-copy-row-requires Inv-loop μ-loop
 copy-row-requires c κs =
@@ -53,8 +54,9 @@ loop-less c = omega arith
 
 loop-again : tie.Need-loop-again Inv-loop μ-loop
 loop-again c =
-    let start = c .before .before .before .before .before .before .before .before in
-    (omega arith, copied-row (start .args .width) (start .args .margin) (start .args .levels .now) (start .args .limit) (c .before .before .before .before .before .loop .inv .1) (c .before .before .copy-row .ensures))
+    let args = c .before .before .before .before .before .before .before .before .args in
+    let loop = c .before .before .before .before .before .loop in
+    (omega arith, copied-row (args .width) (args .margin) (args .levels .now) (args .limit) (loop .inv .1) (c .before .before .copy-row .ensures))
 
 same-length : tie.Need-same-length Inv-loop μ-loop
 same-length c = c .before .loop .inv .1 .filled .size

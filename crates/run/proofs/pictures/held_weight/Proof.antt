@@ -20,8 +20,8 @@ shr-result c = search needs
 
 returns-2 : tie.Need-returns-2
 returns-2 c =
-    let start = c .before .before in
-    counts-one (weight (start .args .col % 8)) (c .before .held .ensures) (c .if1 .left) (held-binary (start .args .low) (start .args .high) (start .args .level))
+    let args = c .before .before .args in
+    counts-one (weight (args .col % 8)) (c .before .held .ensures) (c .if1 .left) (held-binary (args .low) (args .high) (args .level))
 
 pub held-weight-spec : {M : Type 1} → statement M
 held-weight-spec = tie.close (tie.spec held-requires returns cast-result shr-result returns-2)

@@ -38,16 +38,23 @@ add-pack-row-2 c = let s = frame-room (c .before .before .before .before .before
 
 mul-pack-row-2 : tie.Need-mul-pack-row-2 Inv-loop μ-loop
 mul-pack-row-2 c =
-    let start = c .before .before .before .before .before .before in
-    let s = bytes-room (start .args .width) (start .args .height) (c .before .before .loop .row) (c .before .before .before .row-bytes .result) (c .before .before .before .row-bytes .ensures) (c .before .loop-test .taken) in let e = start .pre .1 in omega arith
+    let args = c .before .before .before .before .before .before .args in
+    let pre = c .before .before .before .before .before .before .pre in
+    let row-bytes = c .before .before .before .row-bytes in
+    let s = bytes-room (args .width) (args .height) (c .before .before .loop .row) (row-bytes .result) (row-bytes .ensures) (c .before .loop-test .taken) in
+    let e = pre .1 in omega arith
 
 pack-row-requires : tie.Need-pack-row-requires Inv-loop μ-loop
 pack-row-requires c κs =
-    let start = c .before .before .before .before .before .before in
-    let s = frame-room (start .pre .0) (c .before .before .loop .row) (c .before .loop-test .taken) in
-    let t = bytes-room (start .args .width) (start .args .height) (c .before .before .loop .row) (c .before .before .before .row-bytes .result) (c .before .before .before .row-bytes .ensures) (c .before .loop-test .taken) in
-    let w = start .pre .0 .wide in
-    let long = c .before .before .loop .inv .1 .filled .size in
+    let pre = c .before .before .before .before .before .before .pre in
+    let args = c .before .before .before .before .before .before .args in
+    let row-bytes = c .before .before .before .row-bytes in
+    let loop = c .before .before .loop in
+    let loop-test = c .before .loop-test in
+    let s = frame-room (pre .0) (loop .row) (loop-test .taken) in
+    let t = bytes-room (args .width) (args .height) (loop .row) (row-bytes .result) (row-bytes .ensures) (loop-test .taken) in
+    let w = pre .0 .wide in
+    let long = loop .inv .1 .filled .size in
     (omega arith, (omega arith, omega arith))
 
 add-row : tie.Need-add-row Inv-loop μ-loop
@@ -58,16 +65,19 @@ loop-less c = omega arith
 
 loop-again : tie.Need-loop-again Inv-loop μ-loop
 loop-again c =
-    let start = c .before .before .before .before .before .before .before .before .before in
-    (omega arith, packed-row (start .args .width) (start .args .margin) (start .args .levels .now) (start .args .low) (start .args .high) (c .before .before .before .before .before .loop .inv .1) (c .before .before .before .before .before .before .row-bytes .ensures) (c .before .before .pack-row .ensures))
+    let args = c .before .before .before .before .before .before .before .before .before .args in
+    let row-bytes = c .before .before .before .before .before .before .row-bytes in
+    let loop = c .before .before .before .before .before .loop in
+    (omega arith, packed-row (args .width) (args .margin) (args .levels .now) (args .low) (args .high) (loop .inv .1) (row-bytes .ensures) (c .before .before .pack-row .ensures))
 
 same-length : tie.Need-same-length Inv-loop μ-loop
 same-length c = c .before .loop .inv .1 .filled .size
 
 returns : tie.Need-returns Inv-loop μ-loop
 returns c =
-    let start = c .before .before .before .before .before in
-    packed-all (start .args .width) (start .args .margin) (start .args .levels .now) (start .args .low) (start .args .high) (start .args .height) (c .before .loop .inv .1) (omega arith) (start .pre .1)
+    let args = c .before .before .before .before .before .args in
+    let pre = c .before .before .before .before .before .pre in
+    packed-all (args .width) (args .margin) (args .levels .now) (args .low) (args .high) (args .height) (c .before .loop .inv .1) (omega arith) (pre .1)
 
 pub pack-frame-spec : {M : Type 1} → statement M
 pack-frame-spec =

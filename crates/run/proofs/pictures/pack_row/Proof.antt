@@ -48,8 +48,11 @@ slice-read-byte c = packing-place (c .before .before .before .before .loop .inv)
 
 add-out : tie.Need-add-out Inv-loop μ-loop
 add-out c =
-    let start = c .before .before .before .before .before .before .before .before .before .before .before .before in
-    let s = packing-fits (c .before .before .before .before .loop .inv) (c .before .before .before .loop-test .taken) (c .before .held-weight .result) (c .before .held-weight .ensures) (λ col. held-binary (start .args .low) (start .args .high) (getD (start .args .levels .now) (start .args .from + col) 0)) in
+    let args = c .before .before .before .before .before .before .before .before .before .before .before .before .args in
+    let loop = c .before .before .before .before .loop in
+    let loop-test = c .before .before .before .loop-test in
+    let held-weight = c .before .held-weight in
+    let s = packing-fits (loop .inv) (loop-test .taken) (held-weight .result) (held-weight .ensures) (λ col. held-binary (args .low) (args .high) (getD (args .levels .now) (args .from + col) 0)) in
     omega arith
 
 add-out-2 : tie.Need-add-out-2 Inv-loop μ-loop
@@ -65,13 +68,20 @@ loop-less : tie.Need-loop-less Inv-loop μ-loop
 loop-less c = omega arith
 
 loop-again : tie.Need-loop-again Inv-loop μ-loop
-loop-again c = packing-turn (c .before .before .before .before .loop .inv) (c .before .before .before .loop-test .taken) (c .before .held-weight .result) (c .before .held-weight .ensures)
+loop-again c =
+    let loop = c .before .before .before .before .loop in
+    let loop-test = c .before .before .before .loop-test in
+    let held-weight = c .before .held-weight in
+    packing-turn (loop .inv) (loop-test .taken) (held-weight .result) (held-weight .ensures)
 
 same-length : tie.Need-same-length Inv-loop μ-loop
 same-length c = c .before .loop .inv .bytes .size ∙ c .before .before .before .before .clear .ensures .size
 
 returns : tie.Need-returns Inv-loop μ-loop
-returns c = packing-end (c .before .before .before .before .before .before .before .before .before .args .width) (c .before .before .before .before .clear .ensures) (c .before .before .before .before .before .row-bytes .ensures) (c .before .loop .inv) (c .loop-test .left)
+returns c =
+    let row-bytes = c .before .before .before .before .before .row-bytes in
+    let clear = c .before .before .before .before .clear in
+    packing-end (c .before .before .before .before .before .before .before .before .before .args .width) (clear .ensures) (row-bytes .ensures) (c .before .loop .inv) (c .loop-test .left)
 
 pub pack-row-spec : {M : Type 1} → statement M
 pack-row-spec =

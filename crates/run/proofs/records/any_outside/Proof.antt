@@ -26,8 +26,10 @@ is-outside-requires c κs = search needs
 
 returns : tie.Need-returns Inv-loop μ-loop
 returns c =
-    let i = c .before .before .before .loop .inv in
-    sym (sym (i .1 .1) ∙ outside-found (c .before .before .before .before .args .side) (c .before .before .before .before .args .t2) (c .before .before .before .loop .k) (let l = i .1 .0 in omega arith) (sym (c .before .is-outside .ensures) ∙ c .if1 .taken))
+    let args = c .before .before .before .before .args in
+    let loop = c .before .before .before .loop in
+    let i = loop .inv in
+    sym (sym (i .1 .1) ∙ outside-found (args .side) (args .t2) (loop .k) (let l = i .1 .0 in omega arith) (sym (c .before .is-outside .ensures) ∙ c .if1 .taken))
 
 add-k : tie.Need-add-k Inv-loop μ-loop
 add-k c = search needs
@@ -37,8 +39,10 @@ loop-less c = search needs
 
 loop-again : tie.Need-loop-again Inv-loop μ-loop
 loop-again c =
-    let i = c .before .before .before .loop .inv in
-    (omega arith, (i .1 .0, sym (outside-passed (c .before .before .before .before .args .side) (c .before .before .before .before .args .t2) (c .before .before .before .loop .k) (let l = i .1 .0 in omega arith) (sym (c .before .is-outside .ensures) ∙ c .if1 .left)) ∙ i .1 .1))
+    let args = c .before .before .before .before .args in
+    let loop = c .before .before .before .loop in
+    let i = loop .inv in
+    (omega arith, (i .1 .0, sym (outside-passed (args .side) (args .t2) (loop .k) (let l = i .1 .0 in omega arith) (sym (c .before .is-outside .ensures) ∙ c .if1 .left)) ∙ i .1 .1))
 
 returns-2 : tie.Need-returns-2 Inv-loop μ-loop
 returns-2 c =

@@ -23,7 +23,12 @@ add-if4-2 : tie.Need-add-if4-2
 add-if4-2 c = search needs
 
 returns-4 : tie.Need-returns-4
-returns-4 c = cap-width (c .before .before .before .before .before .before .before .before .args .run) (c .before .before .before .before .before .before .if1 .left) (c .before .before .before .before .if2 .left) (c .before .before .before .if3 .left) (c .before .before .margin-of .result) (c .before .before .margin-of .ensures .0) (c .if4 .taken)
+returns-4 c =
+    let if1 = c .before .before .before .before .before .before .if1 in
+    let if2 = c .before .before .before .before .if2 in
+    let if3 = c .before .before .before .if3 in
+    let margin-of = c .before .before .margin-of in
+    cap-width (c .before .before .before .before .before .before .before .before .args .run) (if1 .left) (if2 .left) (if3 .left) (margin-of .result) (margin-of .ensures .0) (c .if4 .taken)
 
 add-result : tie.Need-add-result
 add-result c = search needs
@@ -32,7 +37,12 @@ add-result-2 : tie.Need-add-result-2
 add-result-2 c = search needs
 
 returns-5 : tie.Need-returns-5
-returns-5 c = cap-height (c .before .before .before .before .before .before .before .before .before .args .run) (c .before .before .before .before .before .before .before .if1 .left) (c .before .before .before .before .before .if2 .left) (c .before .before .before .before .if3 .left) (c .before .before .before .margin-of .result) (c .before .before .before .margin-of .ensures .0) (c .before .if4 .left)
+returns-5 c =
+    let if1 = c .before .before .before .before .before .before .before .if1 in
+    let if2 = c .before .before .before .before .before .if2 in
+    let if3 = c .before .before .before .before .if3 in
+    let margin-of = c .before .before .before .margin-of in
+    cap-height (c .before .before .before .before .before .before .before .before .before .args .run) (if1 .left) (if2 .left) (if3 .left) (margin-of .result) (margin-of .ensures .0) (c .before .if4 .left)
 
 pub cap-foreign-spec : {M : Type 1} → statement M
 cap-foreign-spec =

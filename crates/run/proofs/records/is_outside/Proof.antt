@@ -14,13 +14,18 @@ is-held-requires : tie.Need-is-held-requires
 is-held-requires c κs = search needs
 
 returns-2 : tie.Need-returns-2
-returns-2 c = outside-row (c .before .before .before .args .side) (c .before .before .before .args .cell) (c .before .before .before .args .k) (c .before .before .if1 .left) (sym (c .before .is-held .ensures) ∙ not-true _ (c .if2 .taken))
+returns-2 c =
+    let args = c .before .before .before .args in
+    outside-row (args .side) (args .cell) (args .k) (c .before .before .if1 .left) (sym (c .before .is-held .ensures) ∙ not-true _ (c .if2 .taken))
 
 is-held-requires-2 : tie.Need-is-held-requires-2
 is-held-requires-2 c κs = search needs
 
 returns-3 : tie.Need-returns-3
-returns-3 c = ap not (c .is-held2 .ensures) ∙ outside-column (c .before .before .before .before .args .side) (c .before .before .before .before .args .cell) (c .before .before .before .before .args .k) (c .before .before .before .if1 .left) (sym (c .before .before .is-held .ensures) ∙ not-false _ (c .before .if2 .left))
+returns-3 c =
+    let args = c .before .before .before .before .args in
+    let if1 = c .before .before .before .if1 in
+    ap not (c .is-held2 .ensures) ∙ outside-column (args .side) (args .cell) (args .k) (if1 .left) (sym (c .before .before .is-held .ensures) ∙ not-false _ (c .before .if2 .left))
 
 pub is-outside-spec : {M : Type 1} → statement M
 is-outside-spec =

@@ -20,7 +20,8 @@ mul-result : tie.Need-mul-result
 mul-result c = let s = area-small _ _ (c .before .area-height .ensures .1 .1) (c .area-width .ensures .1 .1) in omega arith
 
 returns : tie.Need-returns
-returns c = ap₂ (λ h w. not (eqb (length (c .before .before .before .args .levels .now)) (h * w))) (c .before .area-height .ensures .0) (c .area-width .ensures .0)
+returns c =
+    ap₂ (λ h w. not (eqb (length (c .before .before .before .args .levels .now)) (h * w))) (c .before .area-height .ensures .0) (c .area-width .ensures .0)
 
 pub levels-wrong-spec : {M : Type 1} → statement M
 levels-wrong-spec =

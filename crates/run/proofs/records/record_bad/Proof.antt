@@ -15,7 +15,10 @@ rows-due-requires : tie.Need-rows-due-requires
 rows-due-requires c κs = sym (c .before .record-foreign .ensures) ∙ c .if1 .left
 
 returns-2 : tie.Need-returns-2
-returns-2 c = bad-rows (c .before .before .before .before .args .run) (sym (c .before .before .before .record-foreign .ensures) ∙ c .before .before .if1 .left) (c .before .rows-due .result) (c .before .rows-due .ensures .0)
+returns-2 c =
+    let record-foreign = c .before .before .before .record-foreign in
+    let rows-due = c .before .rows-due in
+    bad-rows (c .before .before .before .before .args .run) (sym (record-foreign .ensures) ∙ c .before .before .if1 .left) (rows-due .result) (rows-due .ensures .0)
 
 pub record-bad-spec : {M : Type 1} → statement M
 record-bad-spec = tie.close (tie.spec record-foreign-requires returns rows-due-requires returns-2)

@@ -16,22 +16,39 @@ is-side-out-requires-2 : tie.Need-is-side-out-requires-2
 is-side-out-requires-2 c κs = search needs
 
 returns-2 : tie.Need-returns-2
-returns-2 c = foreign-height (c .before .before .before .before .args .run) (sym (c .before .before .before .is-side-out .ensures) ∙ c .before .before .if1 .left) (sym (c .before .is-side-out2 .ensures) ∙ c .if2 .taken)
+returns-2 c =
+    let is-side-out = c .before .before .before .is-side-out in
+    foreign-height (c .before .before .before .before .args .run) (sym (is-side-out .ensures) ∙ c .before .before .if1 .left) (sym (c .before .is-side-out2 .ensures) ∙ c .if2 .taken)
 
 element-foreign-requires : tie.Need-element-foreign-requires
 element-foreign-requires c κs = search needs
 
 returns-3 : tie.Need-returns-3
-returns-3 c = foreign-element (c .before .before .before .before .before .before .before .args .run) (sym (c .before .before .before .before .before .before .is-side-out .ensures) ∙ c .before .before .before .before .before .if1 .left) (sym (c .before .before .before .before .is-side-out2 .ensures) ∙ c .before .before .before .if2 .left) (sym (c .before .element-foreign .ensures) ∙ c .if3 .taken)
+returns-3 c =
+    let is-side-out = c .before .before .before .before .before .before .is-side-out in
+    let if1 = c .before .before .before .before .before .if1 in
+    let is-side-out2 = c .before .before .before .before .is-side-out2 in
+    let if2 = c .before .before .before .if2 in
+    foreign-element (c .before .before .before .before .before .before .before .args .run) (sym (is-side-out .ensures) ∙ if1 .left) (sym (is-side-out2 .ensures) ∙ if2 .left) (sym (c .before .element-foreign .ensures) ∙ c .if3 .taken)
 
 cap-foreign-requires : tie.Need-cap-foreign-requires
-cap-foreign-requires c κs = (
-  taken-side (c .before .before .before .before .before .before .before .args .run .side) (c .before .before .before .before .before .before .before .args .run .cells) (sym (c .before .element-foreign .ensures) ∙ c .if3 .left),
-  (side-in (c .before .before .before .before .before .before .before .args .run .width) (sym (c .before .before .before .before .before .before .is-side-out .ensures) ∙ c .before .before .before .before .before .if1 .left) .1, side-in (c .before .before .before .before .before .before .before .args .run .height) (sym (c .before .before .before .before .is-side-out2 .ensures) ∙ c .before .before .before .if2 .left) .1),
-)
+cap-foreign-requires c κs =
+    let args = c .before .before .before .before .before .before .before .args in
+    let is-side-out = c .before .before .before .before .before .before .is-side-out in
+    let if1 = c .before .before .before .before .before .if1 in
+    let is-side-out2 = c .before .before .before .before .is-side-out2 in
+    let if2 = c .before .before .before .if2 in (
+      taken-side (args .run .side) (args .run .cells) (sym (c .before .element-foreign .ensures) ∙ c .if3 .left),
+      (side-in (args .run .width) (sym (is-side-out .ensures) ∙ if1 .left) .1, side-in (args .run .height) (sym (is-side-out2 .ensures) ∙ if2 .left) .1),
+    )
 
 returns-4 : tie.Need-returns-4
-returns-4 c = foreign-cap (c .before .before .before .before .before .before .before .before .args .run) (sym (c .before .before .before .before .before .before .before .is-side-out .ensures) ∙ c .before .before .before .before .before .before .if1 .left) (sym (c .before .before .before .before .before .is-side-out2 .ensures) ∙ c .before .before .before .before .if2 .left) (sym (c .before .before .element-foreign .ensures) ∙ c .before .if3 .left) (c .cap-foreign .result) (c .cap-foreign .ensures)
+returns-4 c =
+    let is-side-out = c .before .before .before .before .before .before .before .is-side-out in
+    let if1 = c .before .before .before .before .before .before .if1 in
+    let is-side-out2 = c .before .before .before .before .before .is-side-out2 in
+    let if2 = c .before .before .before .before .if2 in
+    foreign-cap (c .before .before .before .before .before .before .before .before .args .run) (sym (is-side-out .ensures) ∙ if1 .left) (sym (is-side-out2 .ensures) ∙ if2 .left) (sym (c .before .before .element-foreign .ensures) ∙ c .before .if3 .left) (c .cap-foreign .result) (c .cap-foreign .ensures)
 
 pub record-foreign-spec : {M : Type 1} → statement M
 record-foreign-spec =

@@ -14,8 +14,8 @@ flat-cells-requires c κs = search needs
 
 returns : tie.Need-returns
 returns c =
-    let start = c .before .before .before in
-    (refl, begun-record (start .args .kind) (start .args .width) (start .args .height) (start .args .cap) (start .args .side) (start .args .bytes .now) _ (c .flat-cells .ensures ∙ ap flat (c .before .cells-of .ensures)))
+    let args = c .before .before .before .args in
+    (refl, begun-record (args .kind) (args .width) (args .height) (args .cap) (args .side) (args .bytes .now) _ (c .flat-cells .ensures ∙ ap flat (c .before .cells-of .ensures)))
 
 pub begun-spec : {M : Type 1} → statement M
 begun-spec = tie.close (tie.spec cells-of-requires flat-cells-requires returns)

@@ -44,8 +44,9 @@ loop-less c = search needs
 
 loop-again : tie.Need-loop-again Inv-loop μ-loop
 loop-again c =
-    let start = c .before .before .before .before .before .before in
-    (omega arith, patch-turn (c .before .before .before .loop .inv .1) (c .pixel-level .result) (omega arith) (c .pixel-level .ensures ∙ ap (λ p. cond (eqb p 1) (start .args .on) (start .args .off)) (c .before .pixel-at .ensures)))
+    let args = c .before .before .before .before .before .before .args in
+    let loop = c .before .before .before .loop in
+    (omega arith, patch-turn (loop .inv .1) (c .pixel-level .result) (omega arith) (c .pixel-level .ensures ∙ ap (λ p. cond (eqb p 1) (args .on) (args .off)) (c .before .pixel-at .ensures)))
 
 same-length : tie.Need-same-length Inv-loop μ-loop
 same-length c = search needs

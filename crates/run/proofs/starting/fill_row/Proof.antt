@@ -27,8 +27,9 @@ same-length c = search needs
 
 returns : tie.Need-returns
 returns c =
-    let start = c .before .before .before .before .before .before .before in
-    patch-as (c .before .before .fill-level .ensures) _ (λ col _. row-above (start .args .width) (start .args .height) (start .args .margin) (start .args .sheet .now) (start .args .on) (start .args .off) (start .args .row) (c .before .before .before .before .if1 .taken) col)
+    let args = c .before .before .before .before .before .before .before .args in
+    let if1 = c .before .before .before .before .if1 in
+    patch-as (c .before .before .fill-level .ensures) _ (λ col _. row-above (args .width) (args .height) (args .margin) (args .sheet .now) (args .on) (args .off) (args .row) (if1 .taken) col)
 
 add-if2 : tie.Need-add-if2
 add-if2 c = search needs
@@ -43,8 +44,9 @@ same-length-2 c = search needs
 
 returns-2 : tie.Need-returns-2
 returns-2 c =
-    let start = c .before .before .before .before .before .before .before .before in
-    patch-as (c .before .before .fill-level2 .ensures) _ (λ col _. row-below (start .args .width) (start .args .height) (start .args .margin) (start .args .sheet .now) (start .args .on) (start .args .off) (start .args .row) (c .before .before .before .before .if2 .taken) col)
+    let args = c .before .before .before .before .before .before .before .before .args in
+    let if2 = c .before .before .before .before .if2 in
+    patch-as (c .before .before .fill-level2 .ensures) _ (λ col _. row-below (args .width) (args .height) (args .margin) (args .sheet .now) (args .on) (args .off) (args .row) (if2 .taken) col)
 
 fill-level-requires-3 : tie.Need-fill-level-requires-3
 fill-level-requires-3 c κs =
@@ -58,11 +60,14 @@ add-fill-pixels c =
 
 fill-pixels-requires : tie.Need-fill-pixels-requires
 fill-pixels-requires c κs =
-    let start = c .before .before .before .before .before .before .before .before .before in
-    let s = row-room (start .pre .0) (start .args .row) (start .pre .1 .1) in
-    let w = start .pre .0 .wide in
-    let h = start .pre .0 .high in
-    (omega arith, (omega arith, (omega arith, rw (start .pre .1 .0) (row-bytes (start .args .width) (start .args .height) (start .args .margin) (start .args .row) (c .before .before .before .before .before .before .if1 .left) (c .before .before .before .before .before .if2 .left)))))
+    let pre = c .before .before .before .before .before .before .before .before .before .pre in
+    let args = c .before .before .before .before .before .before .before .before .before .args in
+    let if1 = c .before .before .before .before .before .before .if1 in
+    let if2 = c .before .before .before .before .before .if2 in
+    let s = row-room (pre .0) (args .row) (pre .1 .1) in
+    let w = pre .0 .wide in
+    let h = pre .0 .high in
+    (omega arith, (omega arith, (omega arith, rw (pre .1 .0) (row-bytes (args .width) (args .height) (args .margin) (args .row) (if1 .left) (if2 .left)))))
 
 add-fill-level : tie.Need-add-fill-level
 add-fill-level c =
@@ -84,8 +89,12 @@ same-length-3 c = search needs
 
 returns-3 : tie.Need-returns-3
 returns-3 c =
-    let start = c .before .before .before .before .before .before .before .before .before .before .before .before .before .before .before .before in
-    row-parts (start .args .width) (start .args .height) (start .args .margin) (start .args .sheet .now) (start .args .on) (start .args .off) (start .args .row) (c .before .before .before .before .before .before .before .before .before .before .before .before .before .if1 .left) (c .before .before .before .before .before .before .before .before .before .before .before .before .if2 .left) (c .before .before .before .before .before .before .before .before .before .before .fill-level3 .ensures) (c .before .before .before .before .before .before .fill-pixels .ensures) (c .before .before .fill-level4 .ensures)
+    let args = c .before .before .before .before .before .before .before .before .before .before .before .before .before .before .before .before .args in
+    let if1 = c .before .before .before .before .before .before .before .before .before .before .before .before .before .if1 in
+    let if2 = c .before .before .before .before .before .before .before .before .before .before .before .before .if2 in
+    let fill-level3 = c .before .before .before .before .before .before .before .before .before .before .fill-level3 in
+    let fill-pixels = c .before .before .before .before .before .before .fill-pixels in
+    row-parts (args .width) (args .height) (args .margin) (args .sheet .now) (args .on) (args .off) (args .row) (if1 .left) (if2 .left) (fill-level3 .ensures) (fill-pixels .ensures) (c .before .before .fill-level4 .ensures)
 
 pub fill-row-spec : {M : Type 1} → statement M
 fill-row-spec =

@@ -15,14 +15,14 @@ refused-requires c κs = search needs
 
 returns : tie.Need-returns
 returns c =
-    let start = c .before .before .before .before .before .before in
-    start-refuses (start .args .width) (start .args .height) (start .args .sheet .now) (start .args .side) (start .args .bytes .now) (c .before .if1 .taken) (c .before .before .start-refusal .ensures) (c .refused .ensures)
+    let args = c .before .before .before .before .before .before .args in
+    start-refuses (args .width) (args .height) (args .sheet .now) (args .side) (args .bytes .now) (c .before .if1 .taken) (c .before .before .start-refusal .ensures) (c .refused .ensures)
 
 mul-if2 : tie.Need-mul-if2
 mul-if2 c =
-    let start = c .before .before .before .before .before in
-    let j = judged (start .args .width) (start .args .height) (start .args .sheet .now) (start .args .side) (start .args .bytes .now) (sym (c .before .start-refusal .ensures) ∙ c .if1 .left) in
-    let s = area-small (start .args .height) (start .args .width) (j .high .1) (j .wide .1) in
+    let args = c .before .before .before .before .before .args in
+    let j = judged (args .width) (args .height) (args .sheet .now) (args .side) (args .bytes .now) (sym (c .before .start-refusal .ensures) ∙ c .if1 .left) in
+    let s = area-small (args .height) (args .width) (j .high .1) (j .wide .1) in
     omega arith
 
 refused-requires-2 : tie.Need-refused-requires-2
@@ -30,26 +30,36 @@ refused-requires-2 c κs = search needs
 
 returns-2 : tie.Need-returns-2
 returns-2 c =
-    let start = c .before .before .before .before .before .before .before in
-    start-refuses-later (start .args .width) (start .args .height) (start .args .sheet .now) (start .args .side) (start .args .bytes .now) (λ z. absurd (omega arith)) (sym (c .before .before .before .start-refusal .ensures) ∙ c .before .before .if1 .left) (erosion-room (start .args .width) (start .args .height) (start .args .levels .now) (c .before .if2 .taken)) (c .refused2 .ensures)
+    let args = c .before .before .before .before .before .before .before .args in
+    let start-refusal = c .before .before .before .start-refusal in
+    start-refuses-later (args .width) (args .height) (args .sheet .now) (args .side) (args .bytes .now) (λ z. absurd (omega arith)) (sym (start-refusal .ensures) ∙ c .before .before .if1 .left) (erosion-room (args .width) (args .height) (args .levels .now) (c .before .if2 .taken)) (c .refused2 .ensures)
 
 fill-area-requires : tie.Need-fill-area-requires
 fill-area-requires c κs =
-    let start = c .before .before .before .before .before .before .before in
-    let j = judged (start .args .width) (start .args .height) (start .args .sheet .now) (start .args .side) (start .args .bytes .now) (sym (c .before .before .before .start-refusal .ensures) ∙ c .before .before .if1 .left) in (frame-canvas (j .wide .1) (j .high .1) (c .before .if2 .left), j .sheet-size)
+    let args = c .before .before .before .before .before .before .before .args in
+    let start-refusal = c .before .before .before .start-refusal in
+    let j = judged (args .width) (args .height) (args .sheet .now) (args .side) (args .bytes .now) (sym (start-refusal .ensures) ∙ c .before .before .if1 .left) in
+    (frame-canvas (j .wide .1) (j .high .1) (c .before .if2 .left), j .sheet-size)
 
 begun-requires : tie.Need-begun-requires
 begun-requires c κs =
-    let start = c .before .before .before .before .before .before .before .before .before .before in
-    let j = judged (start .args .width) (start .args .height) (start .args .sheet .now) (start .args .side) (start .args .bytes .now) (sym (c .before .before .before .before .before .before .start-refusal .ensures) ∙ c .before .before .before .before .before .if1 .left) in (j .element .side-is, j .element .size)
+    let args = c .before .before .before .before .before .before .before .before .before .before .args in
+    let start-refusal = c .before .before .before .before .before .before .start-refusal in
+    let if1 = c .before .before .before .before .before .if1 in
+    let j = judged (args .width) (args .height) (args .sheet .now) (args .side) (args .bytes .now) (sym (start-refusal .ensures) ∙ if1 .left) in
+    (j .element .side-is, j .element .size)
 
 same-length : tie.Need-same-length
 same-length c = search needs
 
 returns-3 : tie.Need-returns-3
 returns-3 c =
-    let start = c .before .before .before .before .before .before .before .before .before .before .before in
-    start-accepts (start .args .width) (start .args .height) (start .args .sheet .now) (start .args .side) (start .args .bytes .now) (sym (c .before .before .before .before .before .before .before .start-refusal .ensures) ∙ c .before .before .before .before .before .before .if1 .left) (erosion-accepted (start .args .width) (start .args .height) (start .args .levels .now) (c .before .before .before .before .before .if2 .left)) (c .begun .ensures) (c .before .before .before .fill-area .ensures)
+    let args = c .before .before .before .before .before .before .before .before .before .before .before .args in
+    let start-refusal = c .before .before .before .before .before .before .before .start-refusal in
+    let if1 = c .before .before .before .before .before .before .if1 in
+    let if2 = c .before .before .before .before .before .if2 in
+    let fill-area = c .before .before .before .fill-area in
+    start-accepts (args .width) (args .height) (args .sheet .now) (args .side) (args .bytes .now) (sym (start-refusal .ensures) ∙ if1 .left) (erosion-accepted (args .width) (args .height) (args .levels .now) (if2 .left)) (c .begun .ensures) (fill-area .ensures)
 
 pub start-erosion-spec : {M : Type 1} → statement M
 start-erosion-spec =

@@ -10,16 +10,16 @@ sheet-refusal-requires c κs = search needs
 
 returns : tie.Need-returns
 returns c =
-    let start = c .before .before .before .before in
-    refuse-sheet (start .args .width) (start .args .height) (start .args .sheet .now) (start .args .side) (start .args .bytes .now) _ (c .if1 .taken) (c .before .sheet-refusal .ensures)
+    let args = c .before .before .before .before .args in
+    refuse-sheet (args .width) (args .height) (args .sheet .now) (args .side) (args .bytes .now) _ (c .if1 .taken) (c .before .sheet-refusal .ensures)
 
 element-refusal-requires : tie.Need-element-refusal-requires
 element-refusal-requires c κs = search needs
 
 returns-2 : tie.Need-returns-2
 returns-2 c =
-    let start = c .before .before .before .before .before in
-    judge-element (start .args .width) (start .args .height) (start .args .sheet .now) (start .args .side) (start .args .bytes .now) (sym (c .before .before .sheet-refusal .ensures) ∙ c .before .if1 .left) (c .element-refusal .ensures)
+    let args = c .before .before .before .before .before .args in
+    judge-element (args .width) (args .height) (args .sheet .now) (args .side) (args .bytes .now) (sym (c .before .before .sheet-refusal .ensures) ∙ c .before .if1 .left) (c .element-refusal .ensures)
 
 pub start-refusal-spec : {M : Type 1} → statement M
 start-refusal-spec =
