@@ -1,24 +1,12 @@
-//! Links the verified library (see `rust/build.rs`), compiles the C scans, and compiles the shims over OpenCV and
-//! leptonica where these are installed; else files that say so.
+//! Compiles the C scans, and the shims over OpenCV and leptonica where these are installed; else files that say so. The
+//! crate `walugtirim` brings the verified library.
 
 use std::env;
 use std::path::{Path, PathBuf};
 use std::process::Command;
 
 fn main() {
-    let directory = env::var_os("WALUGTIRIM_LIB_DIR").map_or_else(
-        || PathBuf::from(env!("CARGO_MANIFEST_DIR")).join("../target/staticlib"),
-        PathBuf::from,
-    );
-    println!("cargo:rerun-if-env-changed=WALUGTIRIM_LIB_DIR");
-    println!(
-        "cargo:rerun-if-changed={}",
-        directory.join("libharness.a").display()
-    );
     println!("cargo:rerun-if-changed=c");
-    println!("cargo:rustc-link-search=native={}", directory.display());
-    println!("cargo:rustc-link-lib=static=harness");
-
     let c = env::var("CC").unwrap_or_else(|_| "cc".to_string());
     let cxx = env::var("CXX").unwrap_or_else(|_| "c++".to_string());
     for name in ["plain", "tuned", "clock"] {
@@ -29,28 +17,22 @@ fn main() {
     }
 
     let opencv_flags = flags_of("opencv4", "-I/usr/include/opencv4");
-    if compile(&cxx, "opencv.cpp", "opencv_shim", &opencv_flags) {
-        for library in ["opencv_imgproc", "opencv_core", "stdc++"] {
-            println!("cargo:rustc-link-lib={library}");
-        }
-    } else {
-        let absent = ["-DNOT_INSTALLED".to_string()];
-        assert!(
-            compile(&cxx, "opencv.cpp", "opencv_shim", &absent),
-            "can't compile c/opencv.cpp"
-        );
-    }
-
+    let opencv_libraries = ["opencv_imgproc", "opencv_core", "stdc++"];
+    compile_shim(
+        &cxx,
+        "opencv.cpp",
+        "opencv_shim",
+        &opencv_flags,
+        &opencv_libraries,
+    );
     let leptonica_flags = flags_of("lept", "-I/usr/include");
-    if compile(&c, "leptonica.c", "leptonica_shim", &leptonica_flags) {
-        println!("cargo:rustc-link-lib=lept");
-    } else {
-        let absent = ["-DNOT_INSTALLED".to_string()];
-        assert!(
-            compile(&c, "leptonica.c", "leptonica_shim", &absent),
-            "can't compile c/leptonica.c"
-        );
-    }
+    compile_shim(
+        &c,
+        "leptonica.c",
+        "leptonica_shim",
+        &leptonica_flags,
+        &["lept"],
+    );
 }
 
 /// What pkg-config says is needed to find a library's headers, or where Debian has them.
@@ -64,6 +46,21 @@ fn flags_of(package: &str, otherwise: &str) -> Vec<String> {
             .map(str::to_string)
             .collect(),
         _ => vec![otherwise.to_string()],
+    }
+}
+
+/// Compiles the shim over some libraries, and links these; where they are not installed, the shim says so.
+fn compile_shim(compiler: &str, file: &str, archive: &str, flags: &[String], libraries: &[&str]) {
+    if compile(compiler, file, archive, flags) {
+        for library in libraries {
+            println!("cargo:rustc-link-lib={library}");
+        }
+    } else {
+        let absent = ["-DNOT_INSTALLED".to_string()];
+        assert!(
+            compile(compiler, file, archive, &absent),
+            "can't compile c/{file}"
+        );
     }
 }
 

@@ -3,19 +3,20 @@
 //! Usage: `bench [--quick]`
 //!
 //! All are worked one thread each, turn by turn, so that a slow moment of the machine meets all of them; medians of the
-//! processor time are given, and how far wall time lies above it. Buffers are allocated and touched beforehand. A run of the library is its start and all its rows; a run of a
-//! scan in C is the same unpacking, done here, and the scan. OpenCV and leptonica are given pictures in their own
-//! layout, made beforehand, and answer in theirs.
+//! processor time are given, and how far wall time lies above it. Buffers are allocated and touched beforehand. A run
+//! of the library is its start and all its rows; a run of a scan in C is the same unpacking, done here, and the scan.
+//! OpenCV and leptonica are given pictures in their own layout, made beforehand, and answer in theirs.
 #![deny(unsafe_code)]
 
+mod library;
 mod raw;
 mod sheets;
 
 use std::hint::black_box;
 use std::time::Instant;
 
-use raw::{Element, Leptonica, Scan, Sheet};
-use sheets::{elements, Content};
+use raw::{Leptonica, Scan};
+use sheets::{elements, Content, Element, Sheet};
 
 /// The size that sheets are opened and closed by, and the cap of dilations.
 const SIZE: usize = 10;
@@ -259,7 +260,7 @@ fn bench_erosion(options: &Options, element: &Element, content: Content) -> Row 
 
     let [ours, plain, tuned] = &mut levels;
     let mut runners = vec![
-        runner("library", || raw::erosion(&sheet, element, ours)),
+        runner("library", || library::erosion(&sheet, element, ours)),
         runner("plain C", || {
             erosion_by(Scan::Plain, &sheet, element, plain);
         }),
@@ -308,7 +309,7 @@ fn bench_dilation(options: &Options, element: &Element, content: Content) -> Row
     let mut levels = [vec![0; points], vec![0; points], vec![0; points]];
     let [ours, plain, tuned] = &mut levels;
     let runners = vec![
-        runner("library", || raw::dilation(&sheet, element, SIZE, ours)),
+        runner("library", || library::dilation(&sheet, element, SIZE, ours)),
         runner("plain C", || {
             dilation_by(Scan::Plain, &sheet, element, SIZE, plain);
         }),
@@ -342,7 +343,7 @@ fn bench_filter(options: &Options, element: &Element, content: Content, closing:
     let (mut plain, mut tuned) = (Vec::new(), Vec::new());
     let runners = vec![
         runner("library", || {
-            raw::filter(closing, &sheet, element, SIZE, &mut work, &mut ours);
+            library::filter(closing, &sheet, element, SIZE, &mut work, &mut ours);
         }),
         runner("plain C", || {
             plain = filter_by(Scan::Plain, closing, &sheet, element, &mut work_plain);
@@ -375,7 +376,7 @@ fn bench_opening_levels(options: &Options, element: &Element) -> Row {
     let [ours, plain, tuned] = &mut out;
     let runners = vec![
         runner("library", || {
-            raw::opening_levels(&sheet, element, &mut work, ours);
+            library::opening_levels(&sheet, element, &mut work, ours);
         }),
         runner("plain C", || {
             opening_levels_by(Scan::Plain, &sheet, element, &mut work_plain, plain);
@@ -407,7 +408,7 @@ fn bench_reading(options: &Options) -> Row {
     let mut ours = vec![0; sheet.bytes.len()];
     let mut copied = vec![0; sheet.bytes.len()];
     let runners = vec![
-        runner("library", || raw::read_pbm(&file, &mut ours)),
+        runner("library", || library::read_pbm(&file, &mut ours)),
         runner("copying the raster", || {
             copied.copy_from_slice(&file[header..]);
             black_box(&copied);

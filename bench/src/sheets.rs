@@ -1,6 +1,40 @@
 //! The sheets and elements that are timed.
 
-use crate::raw::{Element, Sheet};
+use walugtirim::lent::Given;
+
+/// A packed sheet with its frame.
+pub struct Sheet {
+    pub width: usize,
+    pub height: usize,
+    pub bytes: Vec<u8>,
+}
+
+impl Sheet {
+    /// The sheet and an element, as the library takes them.
+    pub fn given<'a>(&'a self, element: &'a Element) -> Given<'a> {
+        Given {
+            width: self.width as u64,
+            height: self.height as u64,
+            sheet: &self.bytes,
+            side: element.side as u64,
+            cells: &element.cells,
+        }
+    }
+}
+
+/// An element: its side, its cells, and the same as seven rows of seven.
+pub struct Element {
+    pub name: &'static str,
+    pub side: usize,
+    pub cells: Vec<u8>,
+    pub flat: [u8; 49],
+}
+
+impl Element {
+    pub fn reach(&self) -> usize {
+        (self.side - 1) / 2
+    }
+}
 
 /// The same random numbers every time (the generator called xorshift64*).
 struct Dice(u64);

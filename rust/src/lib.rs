@@ -22,19 +22,23 @@
 //! frame of 2^60 by 2^60, say), it lends an empty buffer, and the library gives the refusal that comes first.
 #![deny(unsafe_code)]
 
-mod raw;
+/// One safe function over each C function, on the caller's own buffers: for callers that keep these between calls.
+pub mod lent;
 mod refusal;
 mod room;
 
 pub use refusal::Refusal;
 
-use raw::{Given, Record};
+use lent::{Given, Record};
 
 /// The words of a record.
 pub const RECORD_WORDS: usize = 55;
 
 /// The largest allowance that [`Run::continue_by`] accepts.
 pub const MOST_ALLOWANCE: u64 = 8192;
+
+/// What [`lent::open`] and [`lent::close`] are.
+type Filter = fn(Given, u64, &mut [u16], &mut [u16], &mut [u8]) -> Result<(), Refusal>;
 
 /// A bilevel sheet: the raster of a raw PBM, with its frame.
 ///
@@ -101,7 +105,7 @@ impl Sheet {
     pub fn read_pbm(file: &[u8]) -> Result<Sheet, Refusal> {
         // The raster is a part of the file, so the file's own length is room enough.
         let mut bytes = vec![0; file.len()];
-        let [width, height] = raw::read_pbm(file, &mut bytes)?;
+        let [width, height] = lent::read_pbm(file, &mut bytes)?;
         bytes.truncate(room::sheet_bytes(width, height));
         Ok(Sheet::new(width, height, bytes))
     }
@@ -112,7 +116,7 @@ impl Sheet {
     /// 2 or 3, the first in this order.
     pub fn write_pbm(&self) -> Result<Vec<u8>, Refusal> {
         let mut file = vec![0; room::pbm_bytes(self.bytes.len())];
-        let length = raw::write_pbm(self.width, self.height, &self.bytes, &mut file)?;
+        let length = lent::write_pbm(self.width, self.height, &self.bytes, &mut file)?;
         file.truncate(room::count(length));
         Ok(file)
     }
@@ -123,16 +127,7 @@ impl Sheet {
     /// 2 to 8, the lowest that applies.
     pub fn open(&self, element: &Element, size: u64) -> Result<Sheet, Refusal> {
         let area = room::frame_points(self.width, self.height);
-        let (mut work_a, mut work_b) = (vec![0; area], vec![0; area]);
-        let mut opened = Sheet::background(self.width, self.height);
-        raw::open(
-            self.given(element),
-            size,
-            &mut work_a,
-            &mut work_b,
-            &mut opened.bytes,
-        )?;
-        Ok(opened)
+        self.filter(lent::open, element, size, area)
     }
 
     /// Closes the sheet by a size, 0 to 2047: dilates by it on the infinite grid, then erodes by it.
@@ -141,16 +136,7 @@ impl Sheet {
     /// 2 to 9, the lowest that applies.
     pub fn close(&self, element: &Element, size: u64) -> Result<Sheet, Refusal> {
         let area = room::canvas_points(self.width, self.height, element.side, size);
-        let (mut work_a, mut work_b) = (vec![0; area], vec![0; area]);
-        let mut closed = Sheet::background(self.width, self.height);
-        raw::close(
-            self.given(element),
-            size,
-            &mut work_a,
-            &mut work_b,
-            &mut closed.bytes,
-        )?;
-        Ok(closed)
+        self.filter(lent::close, element, size, area)
     }
 
     /// The opening level of every point of the frame, row by row.
@@ -161,7 +147,7 @@ impl Sheet {
         let area = room::frame_points(self.width, self.height);
         let (mut work_a, mut work_b) = (vec![0; area], vec![0; area]);
         let mut levels = vec![0; area];
-        raw::opening_levels(self.given(element), &mut work_a, &mut work_b, &mut levels)?;
+        lent::opening_levels(self.given(element), &mut work_a, &mut work_b, &mut levels)?;
         Ok(levels)
     }
 
@@ -174,7 +160,7 @@ impl Sheet {
         let area = room::canvas_points(self.width, self.height, element.side, cap);
         let (mut work_a, mut work_b) = (vec![0; area], vec![0; area]);
         let mut levels = vec![0; room::frame_points(self.width, self.height)];
-        raw::closing_levels(
+        lent::closing_levels(
             self.given(element),
             cap,
             &mut work_a,
@@ -182,6 +168,26 @@ impl Sheet {
             &mut levels,
         )?;
         Ok(levels)
+    }
+
+    /// Opens or closes, with work buffers of so many levels.
+    fn filter(
+        &self,
+        call: Filter,
+        element: &Element,
+        size: u64,
+        area: usize,
+    ) -> Result<Sheet, Refusal> {
+        let (mut work_a, mut work_b) = (vec![0; area], vec![0; area]);
+        let mut filtered = Sheet::background(self.width, self.height);
+        call(
+            self.given(element),
+            size,
+            &mut work_a,
+            &mut work_b,
+            &mut filtered.bytes,
+        )?;
+        Ok(filtered)
     }
 
     fn given<'a>(&'a self, element: &'a Element) -> Given<'a> {
@@ -229,7 +235,7 @@ impl Element {
     /// 4 to 7, the lowest that applies.
     pub fn reflect(&self) -> Result<Element, Refusal> {
         let mut bytes = vec![0; self.bytes.len()];
-        raw::reflect(self.side, &self.bytes, &mut bytes)?;
+        lent::reflect(self.side, &self.bytes, &mut bytes)?;
         Ok(Element::new(self.side, bytes))
     }
 }
@@ -248,7 +254,7 @@ impl Run {
     /// 2 to 7, the lowest that applies.
     pub fn start_erosion(sheet: &Sheet, element: &Element) -> Result<Run, Refusal> {
         let mut levels = vec![0; room::frame_points(sheet.width, sheet.height)];
-        let record = raw::start_erosion(sheet.given(element), &mut levels)?;
+        let record = lent::start_erosion(sheet.given(element), &mut levels)?;
         Ok(Run { record, levels })
     }
 
@@ -259,7 +265,7 @@ impl Run {
     pub fn start_dilation(sheet: &Sheet, element: &Element, cap: u64) -> Result<Run, Refusal> {
         let area = room::canvas_points(sheet.width, sheet.height, element.side, cap);
         let mut levels = vec![0; area];
-        let record = raw::start_dilation(sheet.given(element), cap, &mut levels)?;
+        let record = lent::start_dilation(sheet.given(element), cap, &mut levels)?;
         Ok(Run { record, levels })
     }
 
@@ -301,7 +307,7 @@ impl Run {
     /// # Errors
     /// 1, 10 or 12, the lowest that applies; a run that a start gave can only earn 12.
     pub fn continue_by(&mut self, allowance: u64) -> Result<bool, Refusal> {
-        raw::continue_run(&mut self.record, &mut self.levels, allowance)
+        lent::continue_run(&mut self.record, &mut self.levels, allowance)
     }
 
     /// Works all rows still due.
@@ -320,7 +326,7 @@ impl Run {
     /// 1, 10 or 13, the lowest that applies.
     pub fn collect(&self) -> Result<Vec<u16>, Refusal> {
         let mut levels = vec![0; room::frame_points(self.record[1], self.record[2])];
-        raw::collect(&self.record, &self.levels, &mut levels)?;
+        lent::collect(&self.record, &self.levels, &mut levels)?;
         Ok(levels)
     }
 
@@ -330,7 +336,7 @@ impl Run {
     /// 1, 8, 10 or 13, the lowest that applies.
     pub fn threshold(&self, size: u64) -> Result<Sheet, Refusal> {
         let mut sheet = Sheet::background(self.record[1], self.record[2]);
-        raw::threshold(&self.record, &self.levels, size, &mut sheet.bytes)?;
+        lent::threshold(&self.record, &self.levels, size, &mut sheet.bytes)?;
         Ok(sheet)
     }
 
@@ -342,7 +348,7 @@ impl Run {
     pub fn write_pgm(&self) -> Result<Vec<u8>, Refusal> {
         let levels = self.collect()?;
         let mut file = vec![0; room::pgm_bytes(levels.len())];
-        let length = raw::write_pgm(&self.record, &levels, &mut file)?;
+        let length = lent::write_pgm(&self.record, &levels, &mut file)?;
         file.truncate(room::count(length));
         Ok(file)
     }

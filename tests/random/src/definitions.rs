@@ -187,8 +187,14 @@ fn level_of(size: u64) -> u16 {
     u16::try_from(size + 1).expect("sizes tried are small")
 }
 
-/// At each point the largest m for which eroding by m - 1 holds it, or 0.
-pub fn erosion_levels(sheet: &Set, element: &Set, points: &[Point]) -> Vec<u16> {
+/// At each point the largest m for which a set holds it, or 0. The set is made of the sheet eroded by n, and of nK,
+/// where n is m - 1; sizes end where eroding leaves nothing.
+fn largest_levels(
+    sheet: &Set,
+    element: &Set,
+    points: &[Point],
+    made_of: impl Fn(Set, &Set) -> Set,
+) -> Vec<u16> {
     let mut levels = vec![0; points.len()];
     let mut sum = nothing_added();
     for size in 0.. {
@@ -196,8 +202,9 @@ pub fn erosion_levels(sheet: &Set, element: &Set, points: &[Point]) -> Vec<u16> 
         if kept.is_empty() {
             break;
         }
+        let set = made_of(kept, &sum);
         for (level, point) in levels.iter_mut().zip(points) {
-            if kept.holds(*point) {
+            if set.holds(*point) {
                 *level = level_of(size);
             }
         }
@@ -206,18 +213,31 @@ pub fn erosion_levels(sheet: &Set, element: &Set, points: &[Point]) -> Vec<u16> 
     levels
 }
 
+/// At each point the largest m for which eroding by m - 1 holds it, or 0.
+pub fn erosion_levels(sheet: &Set, element: &Set, points: &[Point]) -> Vec<u16> {
+    largest_levels(sheet, element, points, |kept, _| kept)
+}
+
 /// At each point the largest m for which opening by m - 1 holds it, or 0.
 pub fn opening_levels(sheet: &Set, element: &Set, points: &[Point]) -> Vec<u16> {
+    largest_levels(sheet, element, points, |kept, sum| kept.plus(sum))
+}
+
+/// At each point the least m from 1 to cap + 1 for which a condition holds, or 0. The condition is on the point, nK and
+/// the sheet dilated by n, where n is m - 1.
+fn least_levels(
+    sheet: &Set,
+    element: &Set,
+    cap: u64,
+    points: &[Point],
+    condition: impl Fn(Point, &Set, &Set) -> bool,
+) -> Vec<u16> {
     let mut levels = vec![0; points.len()];
     let mut sum = nothing_added();
-    for size in 0.. {
-        let kept = erode(sheet, &sum);
-        if kept.is_empty() {
-            break;
-        }
-        let grown_again = kept.plus(&sum);
+    for size in 0..=cap {
+        let grown = sheet.plus(&sum);
         for (level, point) in levels.iter_mut().zip(points) {
-            if grown_again.holds(*point) {
+            if *level == 0 && condition(*point, &sum, &grown) {
                 *level = level_of(size);
             }
         }
@@ -228,32 +248,10 @@ pub fn opening_levels(sheet: &Set, element: &Set, points: &[Point]) -> Vec<u16> 
 
 /// At each point the least m from 1 to cap + 1 for which dilating by m - 1 holds it, or 0.
 pub fn dilation_levels(sheet: &Set, element: &Set, cap: u64, points: &[Point]) -> Vec<u16> {
-    let mut levels = vec![0; points.len()];
-    let mut sum = nothing_added();
-    for size in 0..=cap {
-        let grown = sheet.plus(&sum);
-        for (level, point) in levels.iter_mut().zip(points) {
-            if *level == 0 && grown.holds(*point) {
-                *level = level_of(size);
-            }
-        }
-        sum = sum.plus(element);
-    }
-    levels
+    least_levels(sheet, element, cap, points, |x, _, grown| grown.holds(x))
 }
 
 /// At each point the least m from 1 to cap + 1 for which closing by m - 1 holds it, or 0.
 pub fn closing_levels(sheet: &Set, element: &Set, cap: u64, points: &[Point]) -> Vec<u16> {
-    let mut levels = vec![0; points.len()];
-    let mut sum = nothing_added();
-    for size in 0..=cap {
-        let grown = sheet.plus(&sum);
-        for (level, point) in levels.iter_mut().zip(points) {
-            if *level == 0 && fits(*point, &sum, &grown) {
-                *level = level_of(size);
-            }
-        }
-        sum = sum.plus(element);
-    }
-    levels
+    least_levels(sheet, element, cap, points, fits)
 }

@@ -1,44 +1,14 @@
-//! The library's C functions, and `perform`, which makes one call of it. The only module with `unsafe`.
+//! `perform`, which makes one call of the library's C functions. The only module with `unsafe`.
 //!
-//! The functions are declared here once more, apart from the crate `walugtirim`: the tests judge the archive and not
-//! the crate. Slices that the library only reads are lent with guard zones too, and compared afterwards.
+//! They are called as the header declares them and not through the crate `walugtirim`: the tests judge the archive and
+//! not the crate. Slices that the library only reads are lent with guard zones too, and compared afterwards.
 #![allow(unsafe_code)]
 
 use crate::call::{Call, Name};
 use crate::guarded::{Guarded, Pattern};
 
-#[rustfmt::skip]
-extern "C" {
-    fn wt_start_erosion(width: u64, height: u64, sheet: *const u8, sheet_len: usize, side: u64, cells: *const u8,
-        cells_len: usize, levels: *mut u16, levels_len: usize, record: *mut u64, record_len: usize) -> u32;
-    fn wt_start_dilation(width: u64, height: u64, sheet: *const u8, sheet_len: usize, side: u64, cells: *const u8,
-        cells_len: usize, cap: u64, levels: *mut u16, levels_len: usize, record: *mut u64, record_len: usize) -> u32;
-    fn wt_continue(record: *mut u64, record_len: usize, levels: *mut u16, levels_len: usize, allowance: u64,
-        done: *mut u64, done_len: usize) -> u32;
-    fn wt_collect(record: *const u64, record_len: usize, levels: *const u16, levels_len: usize, out: *mut u16,
-        out_len: usize) -> u32;
-    fn wt_threshold(record: *const u64, record_len: usize, levels: *const u16, levels_len: usize, size: u64,
-        out: *mut u8, out_len: usize) -> u32;
-    fn wt_open(width: u64, height: u64, sheet: *const u8, sheet_len: usize, side: u64, cells: *const u8,
-        cells_len: usize, size: u64, work_a: *mut u16, work_a_len: usize, work_b: *mut u16, work_b_len: usize,
-        out: *mut u8, out_len: usize) -> u32;
-    fn wt_close(width: u64, height: u64, sheet: *const u8, sheet_len: usize, side: u64, cells: *const u8,
-        cells_len: usize, size: u64, work_a: *mut u16, work_a_len: usize, work_b: *mut u16, work_b_len: usize,
-        out: *mut u8, out_len: usize) -> u32;
-    fn wt_opening_levels(width: u64, height: u64, sheet: *const u8, sheet_len: usize, side: u64, cells: *const u8,
-        cells_len: usize, work_a: *mut u16, work_a_len: usize, work_b: *mut u16, work_b_len: usize,
-        out: *mut u16, out_len: usize) -> u32;
-    fn wt_closing_levels(width: u64, height: u64, sheet: *const u8, sheet_len: usize, side: u64, cells: *const u8,
-        cells_len: usize, cap: u64, work_a: *mut u16, work_a_len: usize, work_b: *mut u16, work_b_len: usize,
-        out: *mut u16, out_len: usize) -> u32;
-    fn wt_reflect(side: u64, cells: *const u8, cells_len: usize, out: *mut u8, out_len: usize) -> u32;
-    fn wt_read_pbm(file: *const u8, file_len: usize, out: *mut u8, out_len: usize, frame: *mut u64,
-        frame_len: usize) -> u32;
-    fn wt_write_pbm(width: u64, height: u64, sheet: *const u8, sheet_len: usize, out: *mut u8, out_len: usize,
-        length: *mut u64, length_len: usize) -> u32;
-    fn wt_write_pgm(record: *const u64, record_len: usize, levels: *const u16, levels_len: usize, out: *mut u8,
-        out_len: usize, length: *mut u64, length_len: usize) -> u32;
-}
+#[path = "../../../include/walugtirim.rs"]
+mod c;
 
 /// Lends copies of all slices of the call, makes it, and answers the number with the call as the slices then stand; or
 /// a sentence, where a guard zone was written.
@@ -70,26 +40,27 @@ pub fn perform(call: &Call) -> Result<(u32, Call), String> {
     #[rustfmt::skip]
     let answer = unsafe {
         match call.name {
-            Name::StartErosion => wt_start_erosion(width, height, sheet_at, sheet_len, side, cells_at, cells_len,
+            Name::StartErosion => c::wt_start_erosion(width, height, sheet_at, sheet_len, side, cells_at, cells_len,
                 levels_at, levels_len, words_at, words_len),
-            Name::StartDilation => wt_start_dilation(width, height, sheet_at, sheet_len, side, cells_at, cells_len,
+            Name::StartDilation => c::wt_start_dilation(width, height, sheet_at, sheet_len, side, cells_at, cells_len,
                 number, levels_at, levels_len, words_at, words_len),
-            Name::Continue => wt_continue(record_at, record_len, levels_at, levels_len, number, words_at, words_len),
-            Name::Collect => wt_collect(record_at, record_len, levels_at, levels_len, out_at, out_len),
-            Name::Threshold => wt_threshold(record_at, record_len, levels_at, levels_len, number, bytes_at, bytes_len),
-            Name::Open => wt_open(width, height, sheet_at, sheet_len, side, cells_at, cells_len, number,
+            Name::Continue => c::wt_continue(record_at, record_len, levels_at, levels_len, number, words_at, words_len),
+            Name::Collect => c::wt_collect(record_at, record_len, levels_at, levels_len, out_at, out_len),
+            Name::Threshold => c::wt_threshold(record_at, record_len, levels_at, levels_len, number,
+                bytes_at, bytes_len),
+            Name::Open => c::wt_open(width, height, sheet_at, sheet_len, side, cells_at, cells_len, number,
                 a_at, a_len, b_at, b_len, bytes_at, bytes_len),
-            Name::Close => wt_close(width, height, sheet_at, sheet_len, side, cells_at, cells_len, number,
+            Name::Close => c::wt_close(width, height, sheet_at, sheet_len, side, cells_at, cells_len, number,
                 a_at, a_len, b_at, b_len, bytes_at, bytes_len),
-            Name::OpeningLevels => wt_opening_levels(width, height, sheet_at, sheet_len, side, cells_at, cells_len,
+            Name::OpeningLevels => c::wt_opening_levels(width, height, sheet_at, sheet_len, side, cells_at, cells_len,
                 a_at, a_len, b_at, b_len, out_at, out_len),
-            Name::ClosingLevels => wt_closing_levels(width, height, sheet_at, sheet_len, side, cells_at, cells_len,
+            Name::ClosingLevels => c::wt_closing_levels(width, height, sheet_at, sheet_len, side, cells_at, cells_len,
                 number, a_at, a_len, b_at, b_len, out_at, out_len),
-            Name::Reflect => wt_reflect(side, cells_at, cells_len, bytes_at, bytes_len),
-            Name::ReadPbm => wt_read_pbm(file_at, file_len, bytes_at, bytes_len, words_at, words_len),
-            Name::WritePbm => wt_write_pbm(width, height, sheet_at, sheet_len, bytes_at, bytes_len,
+            Name::Reflect => c::wt_reflect(side, cells_at, cells_len, bytes_at, bytes_len),
+            Name::ReadPbm => c::wt_read_pbm(file_at, file_len, bytes_at, bytes_len, words_at, words_len),
+            Name::WritePbm => c::wt_write_pbm(width, height, sheet_at, sheet_len, bytes_at, bytes_len,
                 words_at, words_len),
-            Name::WritePgm => wt_write_pgm(record_at, record_len, levels_at, levels_len, bytes_at, bytes_len,
+            Name::WritePgm => c::wt_write_pgm(record_at, record_len, levels_at, levels_len, bytes_at, bytes_len,
                 words_at, words_len),
         }
     };

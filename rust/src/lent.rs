@@ -1,4 +1,5 @@
-//! The C functions of the library, as `include/walugtirim.h` declares them, and one safe function over each.
+//! What each slice has to hold is said in `include/walugtirim.h`. Of the refusals listed with a function, the first
+//! that applies is given.
 //!
 //! This is the only module with `unsafe`. Every slice goes over as its pointer and its count, so the two always belong
 //! together, and Rust's own rules keep a slice that is written from overlapping another. The library accepts any
@@ -7,167 +8,14 @@
 
 use crate::{Refusal, RECORD_WORDS};
 
-mod c {
-    extern "C" {
-        pub fn wt_start_erosion(
-            width: u64,
-            height: u64,
-            sheet: *const u8,
-            sheet_len: usize,
-            side: u64,
-            cells: *const u8,
-            cells_len: usize,
-            levels: *mut u16,
-            levels_len: usize,
-            record: *mut u64,
-            record_len: usize,
-        ) -> u32;
-        pub fn wt_start_dilation(
-            width: u64,
-            height: u64,
-            sheet: *const u8,
-            sheet_len: usize,
-            side: u64,
-            cells: *const u8,
-            cells_len: usize,
-            cap: u64,
-            levels: *mut u16,
-            levels_len: usize,
-            record: *mut u64,
-            record_len: usize,
-        ) -> u32;
-        pub fn wt_continue(
-            record: *mut u64,
-            record_len: usize,
-            levels: *mut u16,
-            levels_len: usize,
-            allowance: u64,
-            done: *mut u64,
-            done_len: usize,
-        ) -> u32;
-        pub fn wt_collect(
-            record: *const u64,
-            record_len: usize,
-            levels: *const u16,
-            levels_len: usize,
-            out: *mut u16,
-            out_len: usize,
-        ) -> u32;
-        pub fn wt_threshold(
-            record: *const u64,
-            record_len: usize,
-            levels: *const u16,
-            levels_len: usize,
-            size: u64,
-            out: *mut u8,
-            out_len: usize,
-        ) -> u32;
-        pub fn wt_open(
-            width: u64,
-            height: u64,
-            sheet: *const u8,
-            sheet_len: usize,
-            side: u64,
-            cells: *const u8,
-            cells_len: usize,
-            size: u64,
-            work_a: *mut u16,
-            work_a_len: usize,
-            work_b: *mut u16,
-            work_b_len: usize,
-            out: *mut u8,
-            out_len: usize,
-        ) -> u32;
-        pub fn wt_close(
-            width: u64,
-            height: u64,
-            sheet: *const u8,
-            sheet_len: usize,
-            side: u64,
-            cells: *const u8,
-            cells_len: usize,
-            size: u64,
-            work_a: *mut u16,
-            work_a_len: usize,
-            work_b: *mut u16,
-            work_b_len: usize,
-            out: *mut u8,
-            out_len: usize,
-        ) -> u32;
-        pub fn wt_opening_levels(
-            width: u64,
-            height: u64,
-            sheet: *const u8,
-            sheet_len: usize,
-            side: u64,
-            cells: *const u8,
-            cells_len: usize,
-            work_a: *mut u16,
-            work_a_len: usize,
-            work_b: *mut u16,
-            work_b_len: usize,
-            out: *mut u16,
-            out_len: usize,
-        ) -> u32;
-        pub fn wt_closing_levels(
-            width: u64,
-            height: u64,
-            sheet: *const u8,
-            sheet_len: usize,
-            side: u64,
-            cells: *const u8,
-            cells_len: usize,
-            cap: u64,
-            work_a: *mut u16,
-            work_a_len: usize,
-            work_b: *mut u16,
-            work_b_len: usize,
-            out: *mut u16,
-            out_len: usize,
-        ) -> u32;
-        pub fn wt_reflect(
-            side: u64,
-            cells: *const u8,
-            cells_len: usize,
-            out: *mut u8,
-            out_len: usize,
-        ) -> u32;
-        pub fn wt_read_pbm(
-            file: *const u8,
-            file_len: usize,
-            out: *mut u8,
-            out_len: usize,
-            frame: *mut u64,
-            frame_len: usize,
-        ) -> u32;
-        pub fn wt_write_pbm(
-            width: u64,
-            height: u64,
-            sheet: *const u8,
-            sheet_len: usize,
-            out: *mut u8,
-            out_len: usize,
-            length: *mut u64,
-            length_len: usize,
-        ) -> u32;
-        pub fn wt_write_pgm(
-            record: *const u64,
-            record_len: usize,
-            levels: *const u16,
-            levels_len: usize,
-            out: *mut u8,
-            out_len: usize,
-            length: *mut u64,
-            length_len: usize,
-        ) -> u32;
-    }
-}
+#[path = "../../include/walugtirim.rs"]
+mod c;
 
 /// A run's record, as it crosses the boundary.
 pub type Record = [u64; RECORD_WORDS];
 
-/// What the calls on a sheet and an element have in common.
-#[derive(Clone, Copy)]
+/// What the calls on a sheet and an element have in common: the frame, the packed sheet, the element's side and cells.
+#[derive(Clone, Copy, Debug)]
 pub struct Given<'a> {
     pub width: u64,
     pub height: u64,
@@ -176,6 +24,8 @@ pub struct Given<'a> {
     pub cells: &'a [u8],
 }
 
+/// Starts an erosion and answers its record. The levels are as many as the frame has points.
+/// Refusals: 2 to 7, 10.
 pub fn start_erosion(given: Given, levels: &mut [u16]) -> Result<Record, Refusal> {
     let mut record = [0; RECORD_WORDS];
     let number = unsafe {
@@ -197,6 +47,8 @@ pub fn start_erosion(given: Given, levels: &mut [u16]) -> Result<Record, Refusal
     Ok(record)
 }
 
+/// Starts a dilation up to a cap and answers its record. The levels are as many as the canvas has points.
+/// Refusals: 2 to 10.
 pub fn start_dilation(given: Given, cap: u64, levels: &mut [u16]) -> Result<Record, Refusal> {
     let mut record = [0; RECORD_WORDS];
     let number = unsafe {
@@ -219,6 +71,8 @@ pub fn start_dilation(given: Given, cap: u64, levels: &mut [u16]) -> Result<Reco
     Ok(record)
 }
 
+/// Works so many rows, or those still due where these are fewer. Answers whether all are done.
+/// Refusals: 1, 10, 12.
 pub fn continue_run(
     record: &mut Record,
     levels: &mut [u16],
@@ -240,6 +94,8 @@ pub fn continue_run(
     Ok(done[0] == 1)
 }
 
+/// Gives the levels of the frame, once all rows are done.
+/// Refusals: 1, 10, 11, 13.
 pub fn collect(record: &Record, levels: &[u16], out: &mut [u16]) -> Result<(), Refusal> {
     Refusal::check(unsafe {
         c::wt_collect(
@@ -253,6 +109,8 @@ pub fn collect(record: &Record, levels: &[u16], out: &mut [u16]) -> Result<(), R
     })
 }
 
+/// Gives the eroded or dilated sheet of one size, once all rows are done.
+/// Refusals: 1, 8, 10, 11, 13.
 pub fn threshold(
     record: &Record,
     levels: &[u16],
@@ -272,6 +130,43 @@ pub fn threshold(
     })
 }
 
+/// The C type of `wt_open` and `wt_close`, and of `wt_closing_levels`, where the answer has levels and not bytes.
+#[rustfmt::skip]
+type Filter<T> = unsafe extern "C" fn(
+    u64, u64, *const u8, usize, u64, *const u8, usize, u64, *mut u16, usize, *mut u16, usize, *mut T, usize,
+) -> u32;
+
+/// Calls one of these three with a size or cap.
+fn filter<T>(
+    call: Filter<T>,
+    given: Given,
+    number: u64,
+    work_a: &mut [u16],
+    work_b: &mut [u16],
+    out: &mut [T],
+) -> Result<(), Refusal> {
+    Refusal::check(unsafe {
+        call(
+            given.width,
+            given.height,
+            given.sheet.as_ptr(),
+            given.sheet.len(),
+            given.side,
+            given.cells.as_ptr(),
+            given.cells.len(),
+            number,
+            work_a.as_mut_ptr(),
+            work_a.len(),
+            work_b.as_mut_ptr(),
+            work_b.len(),
+            out.as_mut_ptr(),
+            out.len(),
+        )
+    })
+}
+
+/// Opens a sheet by a size. Each work buffer has as many levels as the frame has points.
+/// Refusals: 2 to 8, 10, 11.
 pub fn open(
     given: Given,
     size: u64,
@@ -279,26 +174,11 @@ pub fn open(
     work_b: &mut [u16],
     out: &mut [u8],
 ) -> Result<(), Refusal> {
-    Refusal::check(unsafe {
-        c::wt_open(
-            given.width,
-            given.height,
-            given.sheet.as_ptr(),
-            given.sheet.len(),
-            given.side,
-            given.cells.as_ptr(),
-            given.cells.len(),
-            size,
-            work_a.as_mut_ptr(),
-            work_a.len(),
-            work_b.as_mut_ptr(),
-            work_b.len(),
-            out.as_mut_ptr(),
-            out.len(),
-        )
-    })
+    filter(c::wt_open, given, size, work_a, work_b, out)
 }
 
+/// Closes a sheet by a size. Each work buffer has as many levels as the canvas of that cap has points.
+/// Refusals: 2 to 11.
 pub fn close(
     given: Given,
     size: u64,
@@ -306,26 +186,11 @@ pub fn close(
     work_b: &mut [u16],
     out: &mut [u8],
 ) -> Result<(), Refusal> {
-    Refusal::check(unsafe {
-        c::wt_close(
-            given.width,
-            given.height,
-            given.sheet.as_ptr(),
-            given.sheet.len(),
-            given.side,
-            given.cells.as_ptr(),
-            given.cells.len(),
-            size,
-            work_a.as_mut_ptr(),
-            work_a.len(),
-            work_b.as_mut_ptr(),
-            work_b.len(),
-            out.as_mut_ptr(),
-            out.len(),
-        )
-    })
+    filter(c::wt_close, given, size, work_a, work_b, out)
 }
 
+/// Gives the opening levels of the frame. Each work buffer has as many levels as the frame has points.
+/// Refusals: 2 to 7, 10, 11.
 pub fn opening_levels(
     given: Given,
     work_a: &mut [u16],
@@ -351,6 +216,8 @@ pub fn opening_levels(
     })
 }
 
+/// Gives the closing levels of the frame, up to a cap. Each work buffer has as many levels as the canvas has points.
+/// Refusals: 2 to 11.
 pub fn closing_levels(
     given: Given,
     cap: u64,
@@ -358,26 +225,11 @@ pub fn closing_levels(
     work_b: &mut [u16],
     out: &mut [u16],
 ) -> Result<(), Refusal> {
-    Refusal::check(unsafe {
-        c::wt_closing_levels(
-            given.width,
-            given.height,
-            given.sheet.as_ptr(),
-            given.sheet.len(),
-            given.side,
-            given.cells.as_ptr(),
-            given.cells.len(),
-            cap,
-            work_a.as_mut_ptr(),
-            work_a.len(),
-            work_b.as_mut_ptr(),
-            work_b.len(),
-            out.as_mut_ptr(),
-            out.len(),
-        )
-    })
+    filter(c::wt_closing_levels, given, cap, work_a, work_b, out)
 }
 
+/// Gives the cells of the element turned about its origin.
+/// Refusals: 4 to 7, 11.
 pub fn reflect(side: u64, cells: &[u8], out: &mut [u8]) -> Result<(), Refusal> {
     Refusal::check(unsafe {
         c::wt_reflect(
@@ -390,7 +242,8 @@ pub fn reflect(side: u64, cells: &[u8], out: &mut [u8]) -> Result<(), Refusal> {
     })
 }
 
-/// Answers the width and the height.
+/// Reads the raster of a raw PBM file into the first bytes of `out`. Answers the width and the height.
+/// Refusals: 21, 22, 2, 23, 24, 11.
 pub fn read_pbm(file: &[u8], out: &mut [u8]) -> Result<[u64; 2], Refusal> {
     let mut frame = [0; 2];
     let number = unsafe {
@@ -407,7 +260,8 @@ pub fn read_pbm(file: &[u8], out: &mut [u8]) -> Result<[u64; 2], Refusal> {
     Ok(frame)
 }
 
-/// Answers the length of the file.
+/// Writes a raw PBM file into the first bytes of `out`. Answers the length of the file.
+/// Refusals: 2, 3, 11.
 pub fn write_pbm(width: u64, height: u64, sheet: &[u8], out: &mut [u8]) -> Result<u64, Refusal> {
     let mut length = [0];
     let number = unsafe {
@@ -426,7 +280,8 @@ pub fn write_pbm(width: u64, height: u64, sheet: &[u8], out: &mut [u8]) -> Resul
     Ok(length[0])
 }
 
-/// Answers the length of the file.
+/// Writes collected levels as a plain PGM file into the first bytes of `out`. Answers the length of the file.
+/// Refusals: 1, 8, 10, 11, 13.
 pub fn write_pgm(record: &Record, levels: &[u16], out: &mut [u8]) -> Result<u64, Refusal> {
     let mut length = [0];
     let number = unsafe {
