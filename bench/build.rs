@@ -7,6 +7,8 @@ use std::process::Command;
 
 fn main() {
     println!("cargo:rerun-if-changed=c");
+    println!("cargo:rerun-if-env-changed=CC");
+    println!("cargo:rerun-if-env-changed=CXX");
     let c = env::var("CC").unwrap_or_else(|_| "cc".to_string());
     let cxx = env::var("CXX").unwrap_or_else(|_| "c++".to_string());
     for name in ["plain", "tuned", "clock"] {
