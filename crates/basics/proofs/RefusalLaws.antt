@@ -32,6 +32,13 @@ first-accepted (r ∷ xs) ys t e = go (r .1) (eqb (r .0) 0) refl t e (first-acce
     go false true q t e ih = absurd t
     go false false q t e ih = ih t e
 
+-- a number judged by the first list, or by the second where nothing of the first applies
+pub judged-first : {number : ℕ} (xs ys : List Refusal) → number ≢ 0 → number ≡ first xs → number ≡ first (xs ++ ys)
+judged-first xs ys n e = e ∙ sym (first-refused xs ys (λ z. n (e ∙ z)))
+
+pub judged-next : {number : ℕ} (xs ys : List Refusal) → T (numbered xs) → first xs ≡ 0 → number ≡ first ys → number ≡ first (xs ++ ys)
+judged-next xs ys t z e = e ∙ sym (first-accepted xs ys t z)
+
 -- where nothing of both applies, nothing of each does
 pub first-both : (xs ys : List Refusal) → T (numbered xs) → first (xs ++ ys) ≡ 0 → (first xs ≡ 0) × (first ys ≡ 0)
 first-both xs ys t e = go (ℕ-discrete (first xs) 0)

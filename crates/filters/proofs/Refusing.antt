@@ -1,7 +1,7 @@
 -- What the four calls are refused for, judged once: the sheet and the element, then the call's own 8, then the canvas and the lengths of the buffers.
 -- An opening works with a cap of 0, whose canvas is the frame, so that its shorter list gives the same number.
-use Prim.Native.Nat.{ℕ, _*_, _≤_, _<_}
-use native.Mathlib.Nat.{zero-mul, mul-le-mul}
+use Prim.Native.Nat.{ℕ, _*_, _≤_}
+use native.Mathlib.Nat.{zero-mul}
 use native.Mathlib.Decide.{ℕ-discrete}
 use native.Mathlib.Omega.{arith}
 use mathlib.Core.Path.{_≡_, refl, sym, ap₂, _∙_}
@@ -10,17 +10,16 @@ use mathlib.Core.Logic.{_≢_}
 use mathlib.Core.List.{List, [], _∷_, _++_}
 use lib.Dec.{eqb, ltb}
 use lib.ListN.{length}
-use borrow.Author.Tests.{lt-ltb, le-ltb, ltb-false, eq-eqb, ne-eqb, eqb-true, not-false}
+use borrow.Author.Tests.{le-ltb, ltb-false, eq-eqb, ne-eqb, eqb-true, not-false}
 use Rattle.basics.specs.Refusals.{Refusal, first}
-use Rattle.basics.proofs.RefusalLaws.{first-refused, first-accepted, first-both}
+use Rattle.basics.proofs.RefusalLaws.{judged-first, judged-next, first-refused, first-accepted, first-both}
 use Rattle.grid.specs.Figures.{reach}
 use Rattle.element.specs.Elements.{elementRefusals}
 use Rattle.sheet.specs.Sheets.{rowBytes, sheetRefusals}
 use Rattle.run.specs.Records.{marginOf, canvasSide}
-use Rattle.run.specs.Starting.{erosionRefusals, dilationRefusals}
+use Rattle.run.specs.Starting.{erosionRefusals, canvasWrong, canvasSize, canvasRefusals, dilationRefusals}
 use Rattle.run.proofs.RecordLaws.{neither}
-use Rattle.run.proofs.Starts.{judged}
-use Rattle.filters.specs.Filters.{canvasSize, canvasWrong}
+use Rattle.run.proofs.Starts.{judged, erosion-fits, canvas-fits, canvas-taken, dilation-canvas}
 use Rattle.filters.specs.Back.{roomRefusals, filterRefusals, entriesOf}
 
 -- entries to a row
@@ -30,33 +29,35 @@ entries-sheet t width n e q l = (rw e q, omega arith)
 pub entries-levels : (t : Bool) (width : ℕ) → t ≡ false → width ≤ 4096 → (width ≡ entriesOf t width) × (width ≤ 4096)
 entries-levels t width e l = (rw e, l)
 
--- a product of two numbers up to 4,096 is small
-pub product-small : (a b : ℕ) → a ≤ 4096 → b ≤ 4096 → a * b ≤ 4096 * 4096
-product-small a b p q = mul-le-mul p q
+-- refusals 9 to 11: those of a canvas, of whose size both work buffers are, and the output's
+module _ (width height cap side work spare room entries : ℕ) where
+  pub room-canvas : {number : ℕ} → number ≢ 0 → number ≡ first (canvasRefusals width height cap side work) → number ≡ first (roomRefusals width height cap side work spare room entries)
+  room-canvas {number} = go (canvasWrong width height cap side) (eqb work (canvasSize width height cap side))
+    where
+      go : (a b : Bool) → number ≢ 0 → number ≡ first ((9, a) ∷ (10, not b) ∷ []) → number ≡ first ((9, a) ∷ (10, not b || not (eqb spare (canvasSize width height cap side))) ∷ (11, not (eqb room (height * entries))) ∷ [])
+      go true b n e = e
+      go false false n e = e
+      go false true n e = absurd (n e)
 
--- refusals 9 to 11, the margin being m
-module _ (width height cap side work spare room entries m : ℕ) (q : m ≡ marginOf cap side) where
-  pub room-wide : 4096 < canvasSide width m → 9 ≡ first (roomRefusals width height cap side work spare room entries)
-  room-wide a = rw (← q, lt-ltb 4096 (canvasSide width m) a)
+  module _ (z : first (canvasRefusals width height cap side work) ≡ 0) where
+    fits : (canvasSide width (marginOf cap side) ≤ 4096) × (canvasSide height (marginOf cap side) ≤ 4096) × (work ≡ canvasSize width height cap side)
+    fits = canvas-taken width height cap side work z
 
-  module _ (a : canvasSide width m ≤ 4096) where
-    pub room-high : 4096 < canvasSide height m → 9 ≡ first (roomRefusals width height cap side work spare room entries)
-    room-high b = rw (← q, le-ltb 4096 (canvasSide width m) a, lt-ltb 4096 (canvasSide height m) b)
+    pub room-spare : spare ≢ work → 10 ≡ first (roomRefusals width height cap side work spare room entries)
+    room-spare n =
+        let t = fits in
+        rw (le-ltb 4096 (canvasSide width (marginOf cap side)) (t .0), le-ltb 4096 (canvasSide height (marginOf cap side)) (t .1), eq-eqb work (canvasSize width height cap side) (t .2), ne-eqb spare (canvasSize width height cap side) (λ e. n (e ∙ sym (t .2))))
 
-    module _ (b : canvasSide height m ≤ 4096) where
-      pub room-work : work ≢ canvasSide height m * canvasSide width m → 10 ≡ first (roomRefusals width height cap side work spare room entries)
-      room-work n = rw (← q, le-ltb 4096 (canvasSide width m) a, le-ltb 4096 (canvasSide height m) b, ne-eqb work (canvasSide height m * canvasSide width m) n)
+    module _ (same : spare ≡ work) (n : ℕ) (q : n ≡ entries) where
+      pub room-out : room ≢ height * n → 11 ≡ first (roomRefusals width height cap side work spare room entries)
+      room-out f =
+          let t = fits in
+          rw (← q, le-ltb 4096 (canvasSide width (marginOf cap side)) (t .0), le-ltb 4096 (canvasSide height (marginOf cap side)) (t .1), eq-eqb work (canvasSize width height cap side) (t .2), eq-eqb spare (canvasSize width height cap side) (same ∙ t .2), ne-eqb room (height * n) f)
 
-      module _ (c : work ≡ canvasSide height m * canvasSide width m) where
-        pub room-spare : spare ≢ canvasSide height m * canvasSide width m → 10 ≡ first (roomRefusals width height cap side work spare room entries)
-        room-spare n = rw (← q, le-ltb 4096 (canvasSide width m) a, le-ltb 4096 (canvasSide height m) b, eq-eqb work (canvasSide height m * canvasSide width m) c, ne-eqb spare (canvasSide height m * canvasSide width m) n)
-
-        module _ (d : spare ≡ canvasSide height m * canvasSide width m) (n : ℕ) (e : n ≡ entries) where
-          pub room-out : room ≢ height * n → 11 ≡ first (roomRefusals width height cap side work spare room entries)
-          room-out f = rw (← q, ← e, le-ltb 4096 (canvasSide width m) a, le-ltb 4096 (canvasSide height m) b, eq-eqb work (canvasSide height m * canvasSide width m) c, eq-eqb spare (canvasSide height m * canvasSide width m) d, ne-eqb room (height * n) f)
-
-          pub room-enough : room ≡ height * n → 0 ≡ first (roomRefusals width height cap side work spare room entries)
-          room-enough f = rw (← q, ← e, le-ltb 4096 (canvasSide width m) a, le-ltb 4096 (canvasSide height m) b, eq-eqb work (canvasSide height m * canvasSide width m) c, eq-eqb spare (canvasSide height m * canvasSide width m) d, eq-eqb room (height * n) f)
+      pub room-enough : room ≡ height * n → 0 ≡ first (roomRefusals width height cap side work spare room entries)
+      room-enough f =
+          let t = fits in
+          rw (← q, le-ltb 4096 (canvasSide width (marginOf cap side)) (t .0), le-ltb 4096 (canvasSide height (marginOf cap side)) (t .1), eq-eqb work (canvasSize width height cap side) (t .2), eq-eqb spare (canvasSize width height cap side) (same ∙ t .2), eq-eqb room (height * n) f)
 
 -- what an accepted call has
 pub record Taken (width height : ℕ) (sheet : List ℕ) (side : ℕ) (bytes : List ℕ) (bad : Bool) (cap work spare room entries : ℕ) : Type 0 where
@@ -77,14 +78,14 @@ module _ (width height : ℕ) (sheet : List ℕ) (side : ℕ) (bytes : List ℕ)
     later = (8, bad) ∷ roomRefusals width height cap side work spare room entries
 
     pub filter-refuses : (number : ℕ) → number ≢ 0 → number ≡ first both → number ≡ first (filterRefusals width height sheet side bytes bad cap work spare room entries)
-    filter-refuses number n e = e ∙ sym (first-refused both later (λ z. n (e ∙ z)))
+    filter-refuses number n e = judged-first both later n e
 
     module _ (z : first both ≡ 0) where
       pub filter-size : bad ≡ true → 8 ≡ first (filterRefusals width height sheet side bytes bad cap work spare room entries)
-      filter-size e = sym (first-accepted both later tt z ∙ rw e)
+      filter-size e = judged-next both later tt z (rw e)
 
       pub filter-room : bad ≡ false → {number : ℕ} → number ≡ first (roomRefusals width height cap side work spare room entries) → number ≡ first (filterRefusals width height sheet side bytes bad cap work spare room entries)
-      filter-room e h = sym (first-accepted both later tt z ∙ rw e (sym h))
+      filter-room e h = judged-next both later tt z (rw e h)
 
     pub taken : first (filterRefusals width height sheet side bytes bad cap work spare room entries) ≡ 0 → Taken width height sheet side bytes bad cap work spare room entries
     taken e =
@@ -133,9 +134,8 @@ module _ (width height : ℕ) (sheet : List ℕ) (side : ℕ) (bytes : List ℕ)
 
   -- the starts accept what a call has accepted
   pub erosion-accepts : {bad : Bool} {spare room entries : ℕ} (lent : List ℕ) → Taken width height sheet side bytes bad 0 (length lent) spare room entries → first (erosionRefusals width height sheet side bytes lent) ≡ 0
-  erosion-accepts lent t = first-accepted both ((10, not (eqb (length lent) (height * width))) ∷ []) tt (t .common) ∙ rw (eq-eqb (length lent) (height * width) (t .work-size ∙ no-canvas))
+  erosion-accepts lent t = sym (erosion-fits width height sheet side bytes lent (t .common) (t .work-size ∙ no-canvas))
 
   pub dilation-accepts : {cap spare room entries : ℕ} (lent : List ℕ) → Taken width height sheet side bytes (ltb 2047 cap) cap (length lent) spare room entries → first (dilationRefusals width height sheet side bytes cap lent) ≡ 0
   dilation-accepts {cap} lent t =
-      first-accepted both ((8, ltb 2047 cap) ∷ (9, canvasWrong width height cap side) ∷ (10, not (eqb (length lent) (canvasSize width height cap side))) ∷ []) tt (t .common)
-      ∙ rw (t .size-good, le-ltb 4096 (canvasSide width (marginOf cap side)) (t .wide), le-ltb 4096 (canvasSide height (marginOf cap side)) (t .high), eq-eqb (length lent) (canvasSize width height cap side) (t .work-size))
+      sym (dilation-canvas width height sheet side bytes cap lent (t .common) (ltb-false 2047 cap (t .size-good)) (canvas-fits width height cap side (length lent) (marginOf cap side) refl (t .wide) (t .high) (t .work-size)))

@@ -26,8 +26,9 @@ use Rattle.element.specs.Elements.{elementSet, elementRefusals, isSide, anyAbov
 use Rattle.element.proofs.Meaning.{drawn-means}
 use Rattle.sheet.specs.Sheets.{rowBytes, packedByte, packed, foreground, isSideOut, sheetRefusals}
 use Rattle.sheet.proofs.PixelLaws.{packed-means}
+use Rattle.run.specs.Starting.{canvasWrong, canvasSize}
 use Rattle.run.specs.StarredRuns.{sheetOf, bytesOf, levelsOf, pictureOf}
-use Rattle.filters.specs.Filters.{Lent, Cleared, IsSheet, AreLevels, canvasSize, canvasWrong, openRefusals, openingRefusals, closingRefusals}
+use Rattle.filters.specs.Filters.{Lent, Cleared, IsSheet, AreLevels, openRefusals, openingRefusals, closingRefusals}
 use Rattle.filters.specs.StarredFilters.{Gives, Given, FiltersGive}
 use Rattle.filters.proofs.Uniqueness.{packed-sheet, sheet-one, levels-one}
 

@@ -12,10 +12,10 @@ use Rattle.sheet.specs.Sheets.{rowBytes, packed, sheetRefusals}
 use Rattle.row.specs.RowRule.{none}
 use Rattle.run.specs.declared.Record.{Record}
 use Rattle.run.specs.Records.{isErosion, areaWidth, areaHeight, foreign}
+use Rattle.run.specs.Starting.{canvasWrong, canvasSize}
 use Rattle.run.specs.Patches.{heldBetween}
 use Rattle.run.specs.Pictures.{frameLevel, isHeldAt}
 use Rattle.run.specs.Demand2.{finished}
-use Rattle.filters.specs.Filters.{canvasSize, canvasWrong}
 
 -- the run of the other kind; its frame is the whole area, so it has no margin of its own
 abbrev pub back : Record → Record

@@ -12,7 +12,7 @@ use Rattle.grid.specs.Levels.{IsOpeningLevel, IsClosingLevel}
 use Rattle.element.specs.Elements.{elementSet, elementRefusals}
 use Rattle.sheet.specs.Sheets.{rowBytes, pixel, packed, foreground, sheetRefusals}
 use Rattle.sheet.specs.Means.{LevelsMean, SheetMeans}
-use Rattle.run.specs.Records.{marginOf, canvasSide}
+use Rattle.run.specs.Starting.{canvasWrong, canvasSize}
 
 -- two work buffers and the output, lent; afterwards the work buffers are all zero
 pub record Lent : Type 0 where
@@ -36,12 +36,6 @@ pub record AreLevels (width height : ℕ) (IsLevel : Point → ℕ → Type 0) (
 
 abbrev pub workWrong : ℕ → Lent → Bool
 workWrong size lent = not (eqb (length (lent .first)) size) || not (eqb (length (lent .second)) size)
-
-abbrev pub canvasSize : ℕ → ℕ → ℕ → ℕ → ℕ
-canvasSize width height cap side = canvasSide height (marginOf cap side) * canvasSide width (marginOf cap side)
-
-abbrev pub canvasWrong : ℕ → ℕ → ℕ → ℕ → Bool
-canvasWrong width height cap side = ltb 4096 (canvasSide width (marginOf cap side)) || ltb 4096 (canvasSide height (marginOf cap side))
 
 abbrev pub sheetWrong : ℕ → ℕ → Lent → Bool
 sheetWrong width height lent = not (eqb (length (lent .out)) (height * rowBytes width))

@@ -4,8 +4,9 @@ use mathlib.Core.Path.{_≡_}
 use mathlib.Core.List.{List, [], _∷_}
 use lib.ListN.{length}
 use Rattle.grid.specs.Starred.{Question, erosionLevels, openingLevels, dilationLevels, closingLevels, erodedBy, openedBy, Case}
+use Rattle.run.specs.Starting.{canvasSize}
 use Rattle.run.specs.StarredRuns.{sheetOf, bytesOf, levelsOf, pictureOf}
-use Rattle.filters.specs.Filters.{Lent, canvasSize, Opens, OpeningLevels, ClosingLevels}
+use Rattle.filters.specs.Filters.{Lent, Opens, OpeningLevels, ClosingLevels}
 
 -- buffers of the sizes asked for, whatever they hold
 pub record Fits (work size : ℕ) (lent : Lent) : Type 0 where

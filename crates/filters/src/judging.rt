@@ -31,19 +31,11 @@ fn room_refusal(
     requires { ⌜ (width ≤ 4096) × ((height ≤ 4096) × ((isSide side ≡ true) × (cap ≤ 2047))) ⌝ }
     ensures { λ r. ⌜ r ≡ first (roomRefusals width height cap side work spare room (entriesOf packed width)) ⌝ }
 {
-    let margin = run::records::margin_of(cap, side);
-    let canvas_width = width + (margin + margin);
-    let canvas_height = height + (margin + margin);
-    if 4096 < canvas_width {
-        return 9;
+    let refusal = run::starting::canvas_refusal(width, height, cap, side, work);
+    if refusal != 0 {
+        return refusal;
     }
-    if 4096 < canvas_height {
-        return 9;
-    }
-    if work != canvas_height * canvas_width {
-        return 10;
-    }
-    if spare != canvas_height * canvas_width {
+    if spare != work {
         return 10;
     }
     if room != height * row_entries(packed, width) {

@@ -1,55 +1,24 @@
 -- The answers of the calls on runs at the boundary, each from the tests that led to it and from the library's answer.
-use Prim.Native.Nat.{ℕ, _*_}
+use Prim.Native.Nat.{ℕ}
 use native.Mathlib.Omega.{arith}
 use mathlib.Core.Path.{_≡_, sym, ap, _∙_}
-use mathlib.Core.Bool.{Bool, true, false, not, _||_}
+use mathlib.Core.Bool.{Bool, true, false}
 use mathlib.Core.Logic.{_≢_}
 use mathlib.Core.List.{List, [], _∷_, _++_}
-use lib.Dec.{T, eqb, ltb}
+use lib.Dec.{T}
 use lib.ListN.{length, set}
 use borrow.Author.Tests.{eq-eqb, ne-eqb}
 use Rattle.basics.specs.Refusals.{Refusal, first, Answers}
-use Rattle.basics.proofs.RefusalLaws.{numbered, first-refused, first-accepted, refuses}
-use Rattle.element.specs.Elements.{elementRefusals}
-use Rattle.sheet.specs.Sheets.{sheetRefusals}
+use Rattle.basics.proofs.RefusalLaws.{numbered, refuses}
 use Rattle.run.specs.declared.Record.{Record}
-use Rattle.run.specs.Records.{marginOf, canvasSide, recordBad, noRecord}
+use Rattle.run.specs.Records.{recordBad, noRecord}
 use Rattle.run.specs.Continuing.{levelsWrong, continueRefusals, Continues}
 use Rattle.run.specs.Pictures.{Collects, Thresholds}
-use Rattle.run.proofs.Starts.{Judged, refuse-sheet, judge-element, judged}
 use Rattle.harness.specs.Boundary.{wordsOf, recordOf, holdsNoRecord, wordsRefusal, answerRefusal, atEleven}
 use Rattle.harness.specs.Runs.{flag, continueWords, ContinuesWords, CollectsWords, ThresholdsWords}
 use Rattle.harness.proofs.AnswerLaws.{carried, carried-refusal, carried-answer, answer-fits, one-stored}
 
--- STARTING: what each kind judges after the sheet and the element
-abbrev pub erosionLater : ℕ → ℕ → List ℕ → List Refusal
-erosionLater width height levels = (10, not (eqb (length levels) (height * width))) ∷ []
-
-abbrev pub dilationLater : ℕ → ℕ → ℕ → ℕ → List ℕ → List Refusal
-dilationLater width height cap side levels =
-    (8, ltb 2047 cap) ∷
-    (9, ltb 4096 (canvasSide width (marginOf cap side)) || ltb 4096 (canvasSide height (marginOf cap side))) ∷
-    (10, not (eqb (length levels) (canvasSide height (marginOf cap side) * canvasSide width (marginOf cap side)))) ∷ []
-
-module _ (width height : ℕ) (sheet : List ℕ) (side : ℕ) (cells : List ℕ) (later : List Refusal) where
-  abbrev common : List Refusal
-  common = sheetRefusals width height sheet ++ elementRefusals side cells
-
-  pub judge-sheet : (n : ℕ) → n ≢ 0 → n ≡ first (sheetRefusals width height sheet) → n ≡ first (common ++ later)
-  judge-sheet n z e = let f = refuse-sheet width height sheet side cells n z e in f ∙ sym (first-refused common later (λ q. z (f ∙ q)))
-
-  module _ (a : first (sheetRefusals width height sheet) ≡ 0) where
-    pub judge-cells : (n : ℕ) → n ≢ 0 → n ≡ first (elementRefusals side cells) → n ≡ first (common ++ later)
-    judge-cells n z e = let f = judge-element width height sheet side cells a e in f ∙ sym (first-refused common later (λ q. z (f ∙ q)))
-
-    module _ (b : first (elementRefusals side cells) ≡ 0) where
-      pub judge-later : (n : ℕ) → first later ≡ n → n ≡ first (common ++ later)
-      judge-later n e = sym (first-accepted common later tt (sym (judge-element width height sheet side cells a (sym b))) ∙ e)
-
-      pub both-judged : Judged width height sheet side cells
-      both-judged = judged width height sheet side cells (sym (judge-element width height sheet side cells a (sym b)))
-
--- the record goes into the words
+-- STARTING: the record goes into the words
 module _ (refusals : List Refusal) (t : T (numbered refusals)) (levels words : List ℕ) (a : length words ≡ 55) {begun : Record} {started : List ℕ} (n : ℕ) (run : Record) (after : List ℕ)
     (p : Answers {A = Record × List ℕ} refusals (noRecord, levels) (λ x. x ≡ (begun, started)) n (run, after)) where
   abbrev StartsWords : ℕ → List ℕ × List ℕ → Type 0

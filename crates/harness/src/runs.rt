@@ -1,8 +1,6 @@
 // Runs: started, continued, collected and thresholded, with the record as words.
 use super::words;
 ghost use mathlib.Core.Path.{_≡_};
-ghost use Rattle.basics.specs.Refusals.{first};
-ghost use Rattle.run.specs.Starting.{erosionRefusals, dilationRefusals};
 ghost use Rattle.harness.specs.Runs.{flag, StartsErosionWords, StartsDilationWords, ContinuesWords, CollectsWords, ThresholdsWords};
 
 // Public: the frame's levels of a finished run, into `out`. Refusals 1, 10, 11, 13.
@@ -74,31 +72,6 @@ pub extern "C" fn wt_continue(
     0
 }
 
-// The refusal of a start of an erosion, or 0.
-fn erosion_refusal(
-    width: usize,
-    height: usize,
-    sheet: &[u8],
-    side: usize,
-    cells: &[u8],
-    levels: &[u16],
-) -> u32
-    ensures { λ r. ⌜ r ≡ first (erosionRefusals width height (now (sheet .entry)) side (now (cells .entry)) (now (levels .entry))) ⌝ }
-{
-    let refusal = sheet::sheet_refusal(width, height, sheet);
-    if refusal != 0 {
-        return refusal;
-    }
-    let refusal = element::element_refusal(side, cells);
-    if refusal != 0 {
-        return refusal;
-    }
-    if levels.len() != height * width {
-        return 10;
-    }
-    0
-}
-
 // Public: starts an erosion; its record goes into `words`. Refusals 2 to 7, 10, 11.
 #[no_mangle]
 pub extern "C" fn wt_start_erosion(
@@ -116,7 +89,14 @@ pub extern "C" fn wt_start_erosion(
     let rows = height as usize;
     let element_side = side as usize;
     if words.len() != 55 {
-        let refusal = erosion_refusal(columns, rows, sheet, element_side, cells, levels);
+        let refusal = run::starting::erosion_refusal(
+            columns,
+            rows,
+            sheet,
+            element_side,
+            cells,
+            levels,
+        );
         if refusal != 0 {
             return refusal;
         }
@@ -129,44 +109,6 @@ pub extern "C" fn wt_start_erosion(
     }
     let run = started.run;
     words::write_record(run, words);
-    0
-}
-
-// The refusal of a start of a dilation, or 0.
-fn dilation_refusal(
-    width: usize,
-    height: usize,
-    sheet: &[u8],
-    side: usize,
-    cells: &[u8],
-    cap: usize,
-    levels: &[u16],
-) -> u32
-    ensures { λ r. ⌜ r ≡ first (dilationRefusals width height (now (sheet .entry)) side (now (cells .entry)) cap (now (levels .entry))) ⌝ }
-{
-    let refusal = sheet::sheet_refusal(width, height, sheet);
-    if refusal != 0 {
-        return refusal;
-    }
-    let refusal = element::element_refusal(side, cells);
-    if refusal != 0 {
-        return refusal;
-    }
-    if 2047 < cap {
-        return 8;
-    }
-    let margin = run::records::margin_of(cap, side);
-    let canvas_width = width + (margin + margin);
-    let canvas_height = height + (margin + margin);
-    if 4096 < canvas_width {
-        return 9;
-    }
-    if 4096 < canvas_height {
-        return 9;
-    }
-    if levels.len() != canvas_height * canvas_width {
-        return 10;
-    }
     0
 }
 
@@ -189,7 +131,15 @@ pub extern "C" fn wt_start_dilation(
     let element_side = side as usize;
     let highest = cap as usize;
     if words.len() != 55 {
-        let refusal = dilation_refusal(columns, rows, sheet, element_side, cells, highest, levels);
+        let refusal = run::starting::dilation_refusal(
+            columns,
+            rows,
+            sheet,
+            element_side,
+            cells,
+            highest,
+            levels,
+        );
         if refusal != 0 {
             return refusal;
         }

@@ -40,7 +40,8 @@ use Rattle.run.specs.Series.{erosion, dilation}
 use Rattle.run.specs.Demand2.{finished, ErosionPicture, DilationPicture}
 use Rattle.run.proofs.RecordLaws.{Sound, sound}
 use Rattle.run.proofs.ScanCells.{partners-erosion, partners-dilation}
-use Rattle.run.proofs.Started.{is-start, length-start, erosion-parts, dilation-parts}
+use Rattle.run.proofs.Starts.{judged, erosion-taken, dilation-taken}
+use Rattle.run.proofs.Started.{is-start, length-start}
 use Rattle.run.proofs.StartLevels.{level-on, level-off, place-down}
 
 -- the record's cells mean the element
@@ -209,8 +210,7 @@ module _ (width height : ℕ) (sheet : List ℕ) (side : ℕ) (bytes : List ℕ)
 -- THE THEOREMS
 pub erosion-picture : ErosionPicture
 erosion-picture width height sheet side bytes lent r levels a =
-    let p = erosion-parts width height sheet side bytes lent (sym (a .refusal)) in
-    let given = accepted side bytes (p .1) in
+    let given = judged width height sheet side bytes (erosion-taken width height sheet side bytes lent (sym (a .refusal)) .0) .element in
     let q = a .accepted refl in
     let k = sound r (is-start (erosion width height sheet side bytes lent a) .taken) in
     let e : startRecord 1 width height 0 side bytes ≡ r = sym (ap (λ t. t .0) q) in
@@ -226,8 +226,7 @@ erosion-picture width height sheet side bytes lent r levels a =
 
 pub dilation-picture : DilationPicture
 dilation-picture width height sheet side bytes R lent r levels a =
-    let p = dilation-parts width height sheet side bytes R lent (sym (a .refusal)) in
-    let given = accepted side bytes (p .1) in
+    let given = judged width height sheet side bytes (dilation-taken width height sheet side bytes R lent (sym (a .refusal)) .0) .element in
     let q = a .accepted refl in
     let k = sound r (is-start (dilation width height sheet side bytes R lent a) .taken) in
     let e : startRecord 2 width height R side bytes ≡ r = sym (ap (λ t. t .0) q) in

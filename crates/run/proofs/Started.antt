@@ -3,27 +3,28 @@ use Prim.Native.Nat.{ℕ, _*_, _≤_}
 use native.Mathlib.Nat.{zero-mul}
 use native.Mathlib.Omega.{arith}
 use mathlib.Core.Path.{_≡_, refl, sym, ap, subst, _∙_}
-use mathlib.Core.Bool.{Bool, true, false, not, cond, _||_}
+use mathlib.Core.Bool.{false, not, cond, _||_}
 use mathlib.Core.Logic.{_↔_, _⊎_, inl, inr}
 use mathlib.Core.List.{List, [], _∷_, _++_}
 use lib.Dec.{eqb, ltb}
 use lib.ListN.{length, replicate, length-replicate}
-use borrow.Author.Tests.{eq-eqb, ne-eqb, le-ltb, ltb-false, eqb-true}
+use borrow.Author.Tests.{eq-eqb, ne-eqb, le-ltb}
 use Rattle.basics.specs.Refusals.{Refusal, first}
-use Rattle.basics.proofs.RefusalLaws.{first-both, first-accepted, accepts}
+use Rattle.basics.proofs.RefusalLaws.{first-accepted, accepts}
 use Rattle.basics.proofs.TableLaws.{length-raster}
 use Rattle.grid.specs.Figures.{reach}
 use Rattle.element.specs.Elements.{elementRefusals}
 use Rattle.element.proofs.Accepted.{accepted}
 use Rattle.sheet.specs.Sheets.{rowBytes, isSideOut, sheetRefusals}
-use Rattle.sheet.proofs.FrameLaws.{frame-sides, sheet-accepted, accept-frame, accept-sheet}
+use Rattle.sheet.proofs.FrameLaws.{accept-frame, accept-sheet}
 use Rattle.row.specs.RowRule.{none}
 use Rattle.run.specs.declared.Record.{Record}
 use Rattle.run.specs.Records.{marginOf, canvasSide, areaWidth, areaHeight, capForeign, foreign}
 use Rattle.run.specs.Starting.{startRecord, inked, startLevels, erosionRefusals, dilationRefusals}
 use Rattle.run.specs.Continuing.{withRows}
 use Rattle.run.specs.Series.{Started, erosion, dilation}
-use Rattle.run.proofs.RecordLaws.{Sound, sound, neither}
+use Rattle.run.proofs.RecordLaws.{Sound, sound}
+use Rattle.run.proofs.Starts.{Judged, judged, erosion-taken, dilation-taken, canvas-taken}
 use Rattle.run.proofs.StartRecords.{start-cells-sound, square, bytes-accepted, bytes-give}
 
 -- a side in its range is not out of it
@@ -32,12 +33,10 @@ unfolding isSideOut
 side-ok side a b = rw (ne-eqb side 0 (λ z. absurd (omega arith)), le-ltb 4096 side b)
 
 -- what both starts accept
-module _ (width height : ℕ) (sheet : List ℕ) (side : ℕ) (bytes : List ℕ) (s : first (sheetRefusals width height sheet) ≡ 0) (e : first (elementRefusals side bytes) ≡ 0) where
+module _ {width height : ℕ} {sheet : List ℕ} {side : ℕ} {bytes : List ℕ} (j : Judged width height sheet side bytes) where
   start-sound : (kind cap : ℕ) → capForeign (startRecord kind width height cap side bytes) ≡ false → foreign (startRecord kind width height cap side bytes) ≡ false
   unfolding foreign
-  start-sound kind cap c =
-      let f = frame-sides width height (sheet-accepted width height sheet s .0) in
-      rw (side-ok width (f .0 .0) (f .0 .1), side-ok height (f .1 .0) (f .1 .1), start-cells-sound side bytes (accepted side bytes e), c)
+  start-sound kind cap c = rw (side-ok width (j .wide .0) (j .wide .1), side-ok height (j .high .0) (j .high .1), start-cells-sound side bytes (j .element), c)
 
 pub length-start : (width height margin : ℕ) (sheet : List ℕ) (on off : ℕ) → length (startLevels width height margin sheet on off) ≡ canvasSide height margin * canvasSide width margin
 unfolding startLevels
@@ -49,36 +48,6 @@ pub record IsStart (r : Record) (levels : List ℕ) : Type 0 where
   pub fresh : r .rows ≡ 0
   pub size : length levels ≡ areaHeight r * areaWidth r
 
--- the parts of an accepted start
-pub erosion-parts : (width height : ℕ) (sheet : List ℕ) (side : ℕ) (bytes lent : List ℕ) → first (erosionRefusals width height sheet side bytes lent) ≡ 0
-    → (first (sheetRefusals width height sheet) ≡ 0) × (first (elementRefusals side bytes) ≡ 0) × (length lent ≡ height * width)
-erosion-parts width height sheet side bytes lent z =
-    let a = first-both (sheetRefusals width height sheet) (elementRefusals side bytes ++ (10, not (eqb (length lent) (height * width))) ∷ []) tt z in
-    let b = first-both (elementRefusals side bytes) ((10, not (eqb (length lent) (height * width))) ∷ []) tt (a .1) in
-    (a .0, b .0, go (eqb (length lent) (height * width)) refl (b .1))
-  where
-    go : (t : Bool) → eqb (length lent) (height * width) ≡ t → first ((10, not t) ∷ []) ≡ 0 → length lent ≡ height * width
-    go true p q = eqb-true (length lent) (height * width) p
-    go false p q = absurd (omega arith)
-
-pub dilation-parts : (width height : ℕ) (sheet : List ℕ) (side : ℕ) (bytes : List ℕ) (cap : ℕ) (lent : List ℕ) → first (dilationRefusals width height sheet side bytes cap lent) ≡ 0
-    → (first (sheetRefusals width height sheet) ≡ 0) × (first (elementRefusals side bytes) ≡ 0) × (cap ≤ 2047) × (canvasSide width (marginOf cap side) ≤ 4096) × (canvasSide height (marginOf cap side) ≤ 4096)
-dilation-parts width height sheet side bytes cap lent z =
-    let w = canvasSide width (marginOf cap side) in
-    let h = canvasSide height (marginOf cap side) in
-    let rest : List Refusal = (8, ltb 2047 cap) ∷ (9, ltb 4096 w || ltb 4096 h) ∷ (10, not (eqb (length lent) (h * w))) ∷ [] in
-    let a = first-both (sheetRefusals width height sheet) (elementRefusals side bytes ++ rest) tt z in
-    let b = first-both (elementRefusals side bytes) rest tt (a .1) in
-    let c = go (ltb 2047 cap) (ltb 4096 w || ltb 4096 h) (eqb (length lent) (h * w)) refl refl (b .1) in
-    let d = neither (ltb 4096 w) (ltb 4096 h) (c .1) in
-    (a .0, b .0, c .0, ltb-false 4096 w (d .0), ltb-false 4096 h (d .1))
-  where
-    go : (x y t : Bool) → ltb 2047 cap ≡ x → ltb 4096 (canvasSide width (marginOf cap side)) || ltb 4096 (canvasSide height (marginOf cap side)) ≡ y → first ((8, x) ∷ (9, y) ∷ (10, not t) ∷ []) ≡ 0
-        → (cap ≤ 2047) × (ltb 4096 (canvasSide width (marginOf cap side)) || ltb 4096 (canvasSide height (marginOf cap side)) ≡ false)
-    go false false t p q e = (ltb-false 2047 cap p, q)
-    go false true t p q e = absurd (omega arith)
-    go true y t p q e = absurd (omega arith)
-
 cap-erosion : (width height side : ℕ) (bytes : List ℕ) → capForeign (startRecord 1 width height 0 side bytes) ≡ false
 unfolding capForeign
 cap-erosion width height side bytes = refl
@@ -89,21 +58,23 @@ cap-dilation width height cap side bytes a b c = rw (le-ltb 2047 cap a, le-ltb 4
 
 pub is-start : {r : Record} {levels : List ℕ} → Started r levels → IsStart r levels
 is-start (erosion width height sheet side bytes lent {r = r} {levels = levels} a) =
-    let p = erosion-parts width height sheet side bytes lent (sym (a .refusal)) in
+    let j = judged width height sheet side bytes (erosion-taken width height sheet side bytes lent (sym (a .refusal)) .0) in
     let q = a .accepted refl in
     let e : startRecord 1 width height 0 side bytes ≡ r = sym (ap (λ t. t .0) q) in
     let f : startLevels width height 0 sheet none 0 ≡ levels = sym (ap (λ t. t .1) q) in
     let size : length (startLevels width height 0 sheet none 0) ≡ areaHeight (startRecord 1 width height 0 side bytes) * areaWidth (startRecord 1 width height 0 side bytes) =
     length-start width height 0 sheet none 0 ∙ ap (λ m. canvasSide height m * canvasSide width m) (sym (zero-mul (reach side))) in
     subst (λ x. IsStart x levels) e (subst (λ l. IsStart (startRecord 1 width height 0 side bytes) l) f
-    (record { taken = start-sound width height sheet side bytes (p .0) (p .1) 1 0 (cap-erosion width height side bytes); fresh = refl; size = size }))
+    (record { taken = start-sound j 1 0 (cap-erosion width height side bytes); fresh = refl; size = size }))
 is-start (dilation width height sheet side bytes cap lent {r = r} {levels = levels} a) =
-    let p = dilation-parts width height sheet side bytes cap lent (sym (a .refusal)) in
+    let p = dilation-taken width height sheet side bytes cap lent (sym (a .refusal)) in
+    let j = judged width height sheet side bytes (p .0) in
+    let t = canvas-taken width height cap side (length lent) (p .2) in
     let q = a .accepted refl in
     let e : startRecord 2 width height cap side bytes ≡ r = sym (ap (λ t. t .0) q) in
     let f : startLevels width height (marginOf cap side) sheet 1 none ≡ levels = sym (ap (λ t. t .1) q) in
     subst (λ x. IsStart x levels) e (subst (λ l. IsStart (startRecord 2 width height cap side bytes) l) f
-    (record { taken = start-sound width height sheet side bytes (p .0) (p .1) 2 cap (cap-dilation width height cap side bytes (p .2) (p .3) (p .4)); fresh = refl; size = length-start width height (marginOf cap side) sheet 1 none }))
+    (record { taken = start-sound j 2 cap (cap-dilation width height cap side bytes (p .1) (t .0) (t .1)); fresh = refl; size = length-start width height (marginOf cap side) sheet 1 none }))
 
 -- a record that is not foreign is a start's, rows done aside: with an empty sheet and levels of the right length
 blank : ℕ → ℕ → List ℕ

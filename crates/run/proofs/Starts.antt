@@ -1,17 +1,16 @@
 -- The answers of the two starts, and that no second outcome meets their contracts.
--- Both kinds judge the sheet and the element first; what is judged after that is a list of refusals of its own for each kind.
+-- Both kinds judge the sheet and the element first, and after that a list of their own; what is accepted was judged false, one by one.
 use Prim.Native.Nat.{ℕ, _*_, _≤_, _<_}
-use native.Mathlib.Decide.{ℕ-discrete}
 use native.Mathlib.Omega.{arith}
 use mathlib.Core.Path.{_≡_, refl, sym, ap₂, _∙_}
 use mathlib.Core.Logic.{_≢_}
-use mathlib.Core.Bool.{not, _||_}
+use mathlib.Core.Bool.{Bool, true, false, not, _||_}
 use mathlib.Core.List.{List, [], _∷_, _++_}
-use lib.Dec.{T, eqb, ltb}
+use lib.Dec.{eqb, ltb}
 use lib.ListN.{length}
-use borrow.Author.Tests.{lt-ltb, le-ltb, eq-eqb, ne-eqb}
+use borrow.Author.Tests.{lt-ltb, le-ltb, ltb-false, eq-eqb, ne-eqb, eqb-true}
 use Rattle.basics.specs.Refusals.{Refusal, first, Answers}
-use Rattle.basics.proofs.RefusalLaws.{numbered, first-refused, first-accepted, refuses, accepts, answers-unique}
+use Rattle.basics.proofs.RefusalLaws.{judged-first, judged-next, first-both, passed, refuses, accepts, answers-unique}
 use Rattle.element.specs.Elements.{elementRefusals}
 use Rattle.element.specs.Cells.{centred, flat}
 use Rattle.element.proofs.Accepted.{Accepted, accepted}
@@ -19,21 +18,13 @@ use Rattle.sheet.specs.Sheets.{rowBytes, sheetRefusals}
 use Rattle.sheet.proofs.FrameLaws.{frame-sides, sheet-accepted}
 use Rattle.run.specs.declared.Record.{Record}
 use Rattle.run.specs.Records.{marginOf, canvasSide, noRecord}
-use Rattle.run.specs.Starting.{startRecord, StartsErosion, StartsDilation}
+use Rattle.run.specs.Starting.{startRecord, erosionRefusals, StartsErosion, canvasSize, canvasRefusals, dilationRefusals, StartsDilation}
 use Rattle.run.specs.Patches.{Canvas}
 
 -- the record of an accepted start
 pub begun-record : (kind width height cap side : ℕ) (bytes cells : List ℕ) → cells ≡ flat (centred side bytes)
     → record { kind = kind; width = width; height = height; cap = cap; side = side; rows = 0; cells = cells } ≡ startRecord kind width height cap side bytes
 begun-record kind width height cap side bytes cells e = rw e
-
--- where two lists in a row accept, each does
-both-accept : (xs ys : List Refusal) → T (numbered xs) → first (xs ++ ys) ≡ 0 → (first xs ≡ 0) × (first ys ≡ 0)
-both-accept xs ys t e = go (ℕ-discrete (first xs) 0)
-  where
-    go : Dec (first xs ≡ 0) → (first xs ≡ 0) × (first ys ≡ 0)
-    go (yes z) = (z, sym (first-accepted xs ys t z) ∙ e)
-    go (no n) = absurd (n (sym (first-refused xs ys n) ∙ e))
 
 -- what an accepted start has: a sound frame, the sheet's bytes, and a sound element
 pub record Judged (width height : ℕ) (sheet : List ℕ) (side : ℕ) (bytes : List ℕ) : Type 0 where
@@ -47,69 +38,94 @@ module _ (width height : ℕ) (sheet : List ℕ) (side : ℕ) (bytes : List ℕ)
   abbrev common : List Refusal
   common = sheetRefusals width height sheet ++ elementRefusals side bytes
 
-  pub refuse-sheet : (number : ℕ) → number ≢ 0 → number ≡ first (sheetRefusals width height sheet) → number ≡ first common
-  refuse-sheet number n e = e ∙ sym (first-refused (sheetRefusals width height sheet) (elementRefusals side bytes) (λ z. n (e ∙ z)))
-
-  pub judge-element : {number : ℕ} → first (sheetRefusals width height sheet) ≡ 0 → number ≡ first (elementRefusals side bytes) → number ≡ first common
-  judge-element z e = e ∙ sym (first-accepted (sheetRefusals width height sheet) (elementRefusals side bytes) tt z)
-
   pub judged : first common ≡ 0 → Judged width height sheet side bytes
   judged e =
-      let both = both-accept (sheetRefusals width height sheet) (elementRefusals side bytes) tt e in
+      let both = first-both (sheetRefusals width height sheet) (elementRefusals side bytes) tt e in
       let s = sheet-accepted width height sheet (both .0) in
       let f = frame-sides width height (s .0) in
       record { wide = f .0; high = f .1; sheet-size = s .1; element = accepted side bytes (both .1) }
 
-  -- the answers, whatever a kind judges after the common refusals
-  module _ {later : List Refusal} {levels : List ℕ} {begun : Record} {started : List ℕ} where
-    pub start-refuses : {answered number : ℕ} {run : Record} → number ≢ 0 → number ≡ first common → (answered ≡ number) × (run ≡ noRecord)
-        → Answers {A = Record × List ℕ} (common ++ later) (noRecord, levels) (λ x. x ≡ (begun, started)) answered (run, levels)
-    start-refuses {answered} {number} {run} n e (p, q) = rw (p, q) (refuses number n (e ∙ sym (first-refused common later (λ z. n (e ∙ z)))))
+  -- the common refusals, and then an erosion's 10
+  module _ (levels : List ℕ) where
+    abbrev erosionLater : List Refusal
+    erosionLater = (10, not (eqb (length levels) (height * width))) ∷ []
 
-    pub start-refuses-later : {answered number : ℕ} {run : Record} → number ≢ 0 → first common ≡ 0 → first later ≡ number → (answered ≡ number) × (run ≡ noRecord)
-        → Answers {A = Record × List ℕ} (common ++ later) (noRecord, levels) (λ x. x ≡ (begun, started)) answered (run, levels)
-    start-refuses-later {answered} {number} {run} n z e (p, q) = rw (p, q) (refuses number n (sym (first-accepted common later tt z ∙ e)))
+    pub erosion-common : {number : ℕ} → number ≢ 0 → number ≡ first common → number ≡ first (erosionRefusals width height sheet side bytes levels)
+    erosion-common n e = judged-first common erosionLater n e
 
-    pub start-accepts : {answered : ℕ} {run : Record} {after : List ℕ} → first common ≡ 0 → first later ≡ 0 → (answered ≡ 0) × (run ≡ begun) → after ≡ started
-        → Answers {A = Record × List ℕ} (common ++ later) (noRecord, levels) (λ x. x ≡ (begun, started)) answered (run, after)
-    start-accepts {answered} {run} {after} z e (p, q) h = rw (p, q, h) (accepts (begun, started) (first-accepted common later tt z ∙ e) refl)
+    pub erosion-short : first common ≡ 0 → length levels ≢ height * width → 10 ≡ first (erosionRefusals width height sheet side bytes levels)
+    erosion-short z n = judged-next common erosionLater tt z (rw (ne-eqb (length levels) (height * width) n))
 
--- refusal 10 of an erosion
-module _ (width height : ℕ) (levels : List ℕ) where
-  abbrev erosionLater : List Refusal
-  erosionLater = (10, not (eqb (length levels) (height * width))) ∷ []
+    pub erosion-fits : first common ≡ 0 → length levels ≡ height * width → 0 ≡ first (erosionRefusals width height sheet side bytes levels)
+    erosion-fits z e = judged-next common erosionLater tt z (rw (eq-eqb (length levels) (height * width) e))
 
-  pub erosion-room : length levels ≢ height * width → first erosionLater ≡ 10
-  erosion-room n = rw (ne-eqb (length levels) (height * width) n)
+    pub erosion-taken : first (erosionRefusals width height sheet side bytes levels) ≡ 0 → (first common ≡ 0) × (length levels ≡ height * width)
+    erosion-taken z = let p = first-both common erosionLater tt z in (p .0, go (eqb (length levels) (height * width)) refl (p .1))
+      where
+        go : (t : Bool) → eqb (length levels) (height * width) ≡ t → first ((10, not t) ∷ []) ≡ 0 → length levels ≡ height * width
+        go true p q = eqb-true (length levels) (height * width) p
+        go false p q = absurd (omega arith)
 
-  pub erosion-accepted : length levels ≡ height * width → first erosionLater ≡ 0
-  erosion-accepted e = rw (eq-eqb (length levels) (height * width) e)
-
--- refusals 8, 9 and 10 of a dilation, whose margin is m
-module _ (width height cap side : ℕ) (levels : List ℕ) where
-  abbrev dilationLater : List Refusal
-  dilationLater =
-      (8, ltb 2047 cap) ∷
-      (9, ltb 4096 (canvasSide width (marginOf cap side)) || ltb 4096 (canvasSide height (marginOf cap side))) ∷
-      (10, not (eqb (length levels) (canvasSide height (marginOf cap side) * canvasSide width (marginOf cap side)))) ∷ []
-
-  pub cap-out : 2047 < cap → first dilationLater ≡ 8
-  cap-out l = rw (lt-ltb 2047 cap l)
-
-  module _ (l : cap ≤ 2047) (m : ℕ) (q : m ≡ marginOf cap side) where
-    pub canvas-wide : 4096 < canvasSide width m → first dilationLater ≡ 9
-    canvas-wide a = rw (← q, le-ltb 2047 cap l, lt-ltb 4096 (canvasSide width m) a)
+-- refusals 9 and 10 of a canvas, whose margin is m
+module _ (width height cap side count : ℕ) where
+  module _ (m : ℕ) (q : m ≡ marginOf cap side) where
+    pub canvas-wide : 4096 < canvasSide width m → 9 ≡ first (canvasRefusals width height cap side count)
+    canvas-wide a = rw (← q, lt-ltb 4096 (canvasSide width m) a)
 
     module _ (a : canvasSide width m ≤ 4096) where
-      pub canvas-high : 4096 < canvasSide height m → first dilationLater ≡ 9
-      canvas-high b = rw (← q, le-ltb 2047 cap l, le-ltb 4096 (canvasSide width m) a, lt-ltb 4096 (canvasSide height m) b)
+      pub canvas-high : 4096 < canvasSide height m → 9 ≡ first (canvasRefusals width height cap side count)
+      canvas-high b = rw (← q, le-ltb 4096 (canvasSide width m) a, lt-ltb 4096 (canvasSide height m) b)
 
       module _ (b : canvasSide height m ≤ 4096) where
-        pub dilation-room : length levels ≢ canvasSide height m * canvasSide width m → first dilationLater ≡ 10
-        dilation-room n = rw (← q, le-ltb 2047 cap l, le-ltb 4096 (canvasSide width m) a, le-ltb 4096 (canvasSide height m) b, ne-eqb (length levels) (canvasSide height m * canvasSide width m) n)
+        pub canvas-short : count ≢ canvasSide height m * canvasSide width m → 10 ≡ first (canvasRefusals width height cap side count)
+        canvas-short n = rw (← q, le-ltb 4096 (canvasSide width m) a, le-ltb 4096 (canvasSide height m) b, ne-eqb count (canvasSide height m * canvasSide width m) n)
 
-        pub dilation-accepted : length levels ≡ canvasSide height m * canvasSide width m → first dilationLater ≡ 0
-        dilation-accepted e = rw (← q, le-ltb 2047 cap l, le-ltb 4096 (canvasSide width m) a, le-ltb 4096 (canvasSide height m) b, eq-eqb (length levels) (canvasSide height m * canvasSide width m) e)
+        pub canvas-fits : count ≡ canvasSide height m * canvasSide width m → 0 ≡ first (canvasRefusals width height cap side count)
+        canvas-fits e = rw (← q, le-ltb 4096 (canvasSide width m) a, le-ltb 4096 (canvasSide height m) b, eq-eqb count (canvasSide height m * canvasSide width m) e)
+
+  pub canvas-taken : first (canvasRefusals width height cap side count) ≡ 0 → (canvasSide width (marginOf cap side) ≤ 4096) × (canvasSide height (marginOf cap side) ≤ 4096) × (count ≡ canvasSize width height cap side)
+  canvas-taken z = go (ltb 4096 w) (ltb 4096 h) (eqb count (h * w)) refl refl refl z
+    where
+      w : ℕ
+      w = canvasSide width (marginOf cap side)
+
+      h : ℕ
+      h = canvasSide height (marginOf cap side)
+
+      go : (a b t : Bool) → ltb 4096 w ≡ a → ltb 4096 h ≡ b → eqb count (h * w) ≡ t → first ((9, a || b) ∷ (10, not t) ∷ []) ≡ 0 → (w ≤ 4096) × (h ≤ 4096) × (count ≡ h * w)
+      go false false true p q e z = (ltb-false 4096 w p, ltb-false 4096 h q, eqb-true count (h * w) e)
+      go false false false p q e z = absurd (omega arith)
+      go false true t p q e z = absurd (omega arith)
+      go true b t p q e z = absurd (omega arith)
+
+-- the common refusals, and then a dilation's 8, 9 and 10
+module _ (width height : ℕ) (sheet : List ℕ) (side : ℕ) (bytes : List ℕ) (cap : ℕ) (levels : List ℕ) where
+  abbrev dilationLater : List Refusal
+  dilationLater = (8, ltb 2047 cap) ∷ canvasRefusals width height cap side (length levels)
+
+  pub dilation-common : {number : ℕ} → number ≢ 0 → number ≡ first (common width height sheet side bytes) → number ≡ first (dilationRefusals width height sheet side bytes cap levels)
+  dilation-common n e = judged-first (common width height sheet side bytes) dilationLater n e
+
+  module _ (z : first (common width height sheet side bytes) ≡ 0) where
+    pub dilation-cap : 2047 < cap → 8 ≡ first (dilationRefusals width height sheet side bytes cap levels)
+    dilation-cap l = judged-next (common width height sheet side bytes) dilationLater tt z (rw (lt-ltb 2047 cap l))
+
+    pub dilation-canvas : cap ≤ 2047 → {number : ℕ} → number ≡ first (canvasRefusals width height cap side (length levels)) → number ≡ first (dilationRefusals width height sheet side bytes cap levels)
+    dilation-canvas l e = judged-next (common width height sheet side bytes) dilationLater tt z (rw (le-ltb 2047 cap l) e)
+
+  pub dilation-taken : first (dilationRefusals width height sheet side bytes cap levels) ≡ 0 → (first (common width height sheet side bytes) ≡ 0) × (cap ≤ 2047) × (first (canvasRefusals width height cap side (length levels)) ≡ 0)
+  dilation-taken z =
+      let p = first-both (common width height sheet side bytes) dilationLater tt z in
+      let q = passed 8 (ltb 2047 cap) (canvasRefusals width height cap side (length levels)) (λ e. absurd (omega arith)) (p .1) in
+      (p .0, ltb-false 2047 cap (q .0), q .1)
+
+-- the answers
+module _ {refusals : List Refusal} {levels : List ℕ} {begun : Record} {started : List ℕ} where
+  pub start-refuses : {answered number : ℕ} {run : Record} → number ≢ 0 → number ≡ first refusals → (answered ≡ number) × (run ≡ noRecord) → Answers {A = Record × List ℕ} refusals (noRecord, levels) (λ x. x ≡ (begun, started)) answered (run, levels)
+  start-refuses {answered} {number} {run} n e (p, q) = rw (p, q) (refuses number n e)
+
+  pub start-accepts : {answered : ℕ} {run : Record} {after : List ℕ} → first refusals ≡ 0 → (answered ≡ 0) × (run ≡ begun) → after ≡ started → Answers {A = Record × List ℕ} refusals (noRecord, levels) (λ x. x ≡ (begun, started)) answered (run, after)
+  start-accepts {answered} {run} {after} e (p, q) h = rw (p, q, h) (accepts (begun, started) e refl)
 
 -- an erosion has no margin
 pub frame-canvas : {width height : ℕ} {levels : List ℕ} → width ≤ 4096 → height ≤ 4096 → length levels ≡ height * width → Canvas width height 0 levels
@@ -118,6 +134,10 @@ frame-canvas {width} {height} a b e = record {
   high = omega arith;
   room = e ∙ ap₂ (λ h w. h * w) (let p : height ≡ canvasSide height 0 = omega arith in p) (let p : width ≡ canvasSide width 0 = omega arith in p);
 }
+
+-- a dilation's canvas, its margin worked out
+pub canvas-area : (width height cap side m : ℕ) (levels : List ℕ) → m ≡ marginOf cap side → first (canvasRefusals width height cap side (length levels)) ≡ 0 → Canvas width height m levels
+canvas-area width height cap side m levels q z = let t = canvas-taken width height cap side (length levels) z in rw q (record { wide = t .0; high = t .1; room = t .2 })
 
 -- NO SECOND OUTCOME
 pub start-erosion-unique : (width height : ℕ) (sheet : List ℕ) (side : ℕ) (bytes levels : List ℕ) (m n : ℕ) (x y : Record × List ℕ)

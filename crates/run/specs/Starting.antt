@@ -38,13 +38,20 @@ StartsErosion width height sheet side bytes levels =
     Answers (erosionRefusals width height sheet side bytes levels) (noRecord, levels)
     (λ after. after ≡ (startRecord 1 width height 0 side bytes, startLevels width height 0 sheet none 0))
 
--- a dilation starts with 1 on A and 65,535 elsewhere on the canvas
+-- a dilation starts with 1 on A and 65,535 elsewhere on the canvas, whose sides are at most 4,096
+abbrev pub canvasWrong : ℕ → ℕ → ℕ → ℕ → Bool
+canvasWrong width height cap side = ltb 4096 (canvasSide width (marginOf cap side)) || ltb 4096 (canvasSide height (marginOf cap side))
+
+abbrev pub canvasSize : ℕ → ℕ → ℕ → ℕ → ℕ
+canvasSize width height cap side = canvasSide height (marginOf cap side) * canvasSide width (marginOf cap side)
+
+-- 9 and 10, of so many levels
+abbrev pub canvasRefusals : ℕ → ℕ → ℕ → ℕ → ℕ → List Refusal
+canvasRefusals width height cap side count = (9, canvasWrong width height cap side) ∷ (10, not (eqb count (canvasSize width height cap side))) ∷ []
+
 abbrev pub dilationRefusals : ℕ → ℕ → List ℕ → ℕ → List ℕ → ℕ → List ℕ → List Refusal
 dilationRefusals width height sheet side bytes cap levels =
-    sheetRefusals width height sheet ++ (elementRefusals side bytes ++
-    (8, ltb 2047 cap) ∷
-    (9, ltb 4096 (canvasSide width (marginOf cap side)) || ltb 4096 (canvasSide height (marginOf cap side))) ∷
-    (10, not (eqb (length levels) (canvasSide height (marginOf cap side) * canvasSide width (marginOf cap side)))) ∷ [])
+    sheetRefusals width height sheet ++ (elementRefusals side bytes ++ (8, ltb 2047 cap) ∷ canvasRefusals width height cap side (length levels))
 
 abbrev pub StartsDilation : ℕ → ℕ → List ℕ → ℕ → List ℕ → ℕ → List ℕ → ℕ → Record × List ℕ → Type 0
 StartsDilation width height sheet side bytes cap levels =

@@ -11,7 +11,7 @@ ghost use Rattle.basics.specs.Refusals.{first};
 ghost use Rattle.element.specs.Elements.{isSide, elementRefusals};
 ghost use Rattle.sheet.specs.Sheets.{pixel, rowBytes, sheetRefusals};
 ghost use Rattle.run.specs.Records.{canvasSide, noRecord};
-ghost use Rattle.run.specs.Starting.{startRecord, inked, startLevels, StartsErosion, StartsDilation};
+ghost use Rattle.run.specs.Starting.{startRecord, inked, startLevels, erosionRefusals, StartsErosion, canvasRefusals, dilationRefusals, StartsDilation};
 ghost use Rattle.run.specs.Patches.{Patch, Canvas};
 
 // What a start answers: the refusal number, 0 where it is accepted, and the run's record, all zero beside a refusal.
@@ -124,6 +124,69 @@ pub fn start_refusal(width: usize, height: usize, sheet: &[u8], side: usize, byt
     element::element_refusal(side, bytes)
 }
 
+// Refusals 9 and 10 of a canvas with so many levels, or 0.
+pub fn canvas_refusal(width: usize, height: usize, cap: usize, side: usize, count: usize) -> u32
+    requires { ⌜ (width ≤ 4096) × ((height ≤ 4096) × ((isSide side ≡ true) × (cap ≤ 2047))) ⌝ }
+    ensures { λ r. ⌜ r ≡ first (canvasRefusals width height cap side count) ⌝ }
+{
+    let margin = records::margin_of(cap, side);
+    let canvas_width = width + (margin + margin);
+    let canvas_height = height + (margin + margin);
+    if 4096 < canvas_width {
+        return 9;
+    }
+    if 4096 < canvas_height {
+        return 9;
+    }
+    if count != canvas_height * canvas_width {
+        return 10;
+    }
+    0
+}
+
+// Refusals 2 to 7 and 10 of an erosion, or 0.
+pub fn erosion_refusal(
+    width: usize,
+    height: usize,
+    sheet: &[u8],
+    side: usize,
+    bytes: &[u8],
+    levels: &[u16],
+) -> u32
+    ensures { λ r. ⌜ r ≡ first (erosionRefusals width height (now (sheet .entry)) side (now (bytes .entry)) (now (levels .entry))) ⌝ }
+{
+    let refusal = start_refusal(width, height, sheet, side, bytes);
+    if refusal != 0 {
+        return refusal;
+    }
+    if levels.len() != height * width {
+        return 10;
+    }
+    0
+}
+
+// Refusals 2 to 10 of a dilation, or 0.
+pub fn dilation_refusal(
+    width: usize,
+    height: usize,
+    sheet: &[u8],
+    side: usize,
+    bytes: &[u8],
+    cap: usize,
+    levels: &[u16],
+) -> u32
+    ensures { λ r. ⌜ r ≡ first (dilationRefusals width height (now (sheet .entry)) side (now (bytes .entry)) cap (now (levels .entry))) ⌝ }
+{
+    let refusal = start_refusal(width, height, sheet, side, bytes);
+    if refusal != 0 {
+        return refusal;
+    }
+    if 2047 < cap {
+        return 8;
+    }
+    canvas_refusal(width, height, cap, side, levels.len())
+}
+
 // A refusal, with the record all zero.
 fn refused(number: u32) -> Started
     ensures { λ r. ⌜ (r .refusal ≡ number) × (r .run ≡ noRecord) ⌝ }
@@ -167,12 +230,9 @@ pub fn start_erosion(
 ) -> Started
     ensures { λ r. ⌜ StartsErosion width height (now (sheet .entry)) side (now (bytes .entry)) (now (levels .entry)) (r .refusal) (r .run, now (levels .exit)) ⌝ }
 {
-    let refusal = start_refusal(width, height, sheet, side, bytes);
+    let refusal = erosion_refusal(width, height, sheet, side, bytes, levels);
     if refusal != 0 {
         return refused(refusal);
-    }
-    if levels.len() != height * width {
-        return refused(10);
     }
     fill_area(levels, width, height, 0, sheet, 65535, 0);
     begun(1, width, height, 0, side, bytes)
@@ -190,25 +250,11 @@ pub fn start_dilation(
 ) -> Started
     ensures { λ r. ⌜ StartsDilation width height (now (sheet .entry)) side (now (bytes .entry)) cap (now (levels .entry)) (r .refusal) (r .run, now (levels .exit)) ⌝ }
 {
-    let refusal = start_refusal(width, height, sheet, side, bytes);
+    let refusal = dilation_refusal(width, height, sheet, side, bytes, cap, levels);
     if refusal != 0 {
         return refused(refusal);
     }
-    if 2047 < cap {
-        return refused(8);
-    }
     let margin = records::margin_of(cap, side);
-    let canvas_width = width + (margin + margin);
-    let canvas_height = height + (margin + margin);
-    if 4096 < canvas_width {
-        return refused(9);
-    }
-    if 4096 < canvas_height {
-        return refused(9);
-    }
-    if levels.len() != canvas_height * canvas_width {
-        return refused(10);
-    }
     fill_area(levels, width, height, margin, sheet, 1, 65535);
     begun(2, width, height, cap, side, bytes)
 }

@@ -1,7 +1,7 @@
 -- The loop's invariant: the rows above are stored.
 use Rattle.filters.proofs.StoreLaws.{storedLevel, stored-row}
 use Rattle.run.proofs.PatchLaws.{Rows, rows-none, rows-all, row-end, frame-room}
-use Rattle.filters.proofs.Refusing.{product-small}
+use Rattle.run.proofs.RecordLaws.{area-small}
 use borrow.Author.Needs.{needs}
 use native.Mathlib.Omega.{arith}
 use Prim.Native.Nat.{_-_, _≤_}
@@ -37,7 +37,7 @@ mul-store-row-2 c =
     let args = c .before .before .before .before .before .args in
     let pre = c .before .before .before .before .before .pre in
     let s = row-end (args .width) (args .height) (c .before .before .loop .row) (c .before .loop-test .taken) in
-    let e = pre .1 in let m = product-small (args .height) (args .width) (omega arith) (omega arith) in omega arith
+    let e = pre .1 in let m = area-small (args .height) (args .width) (omega arith) (omega arith) in omega arith
 
 store-row-requires : tie.Need-store-row-requires Inv-loop μ-loop
 store-row-requires c κs =

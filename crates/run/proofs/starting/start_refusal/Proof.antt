@@ -1,5 +1,7 @@
 -- The sheet's refusals stand first, then the element's.
-use Rattle.run.proofs.Starts.{refuse-sheet, judge-element}
+use Rattle.basics.proofs.RefusalLaws.{judged-first, judged-next}
+use Rattle.element.specs.Elements.{elementRefusals}
+use Rattle.sheet.specs.Sheets.{sheetRefusals}
 use borrow.Author.Needs.{needs}
 use mathlib.Core.Path.{sym, _∙_}
 use Rattle.run.proofs.starting.start_refusal.Statement.{statement}
@@ -11,7 +13,7 @@ sheet-refusal-requires c κs = search needs
 returns : tie.Need-returns
 returns c =
     let args = c .before .before .before .before .args in
-    refuse-sheet (args .width) (args .height) (args .sheet .now) (args .side) (args .bytes .now) _ (c .if1 .taken) (c .before .sheet-refusal .ensures)
+    judged-first (sheetRefusals (args .width) (args .height) (args .sheet .now)) (elementRefusals (args .side) (args .bytes .now)) (c .if1 .taken) (c .before .sheet-refusal .ensures)
 
 element-refusal-requires : tie.Need-element-refusal-requires
 element-refusal-requires c κs = search needs
@@ -19,7 +21,7 @@ element-refusal-requires c κs = search needs
 returns-2 : tie.Need-returns-2
 returns-2 c =
     let args = c .before .before .before .before .before .args in
-    judge-element (args .width) (args .height) (args .sheet .now) (args .side) (args .bytes .now) (sym (c .before .before .sheet-refusal .ensures) ∙ c .before .if1 .left) (c .element-refusal .ensures)
+    judged-next (sheetRefusals (args .width) (args .height) (args .sheet .now)) (elementRefusals (args .side) (args .bytes .now)) tt (sym (c .before .before .sheet-refusal .ensures) ∙ c .before .if1 .left) (c .element-refusal .ensures)
 
 pub start-refusal-spec : {M : Type 1} → statement M
 start-refusal-spec =
