@@ -1,18 +1,18 @@
 -- From the library's answers to the boundary's: the boundary's own refusals stand among the library's, so where they do not apply
 -- the number is the library's, and where one does it is the lowest of both. The values beside the number go to the answer slices.
-use Prim.Native.Nat.{ℕ}
+use Prim.Native.Nat.{ℕ, _≤_}
 use native.Mathlib.Decide.{ℕ-discrete}
 use native.Mathlib.Omega.{arith}
-use mathlib.Core.Path.{_≡_, refl, sym, _∙_}
-use mathlib.Core.Bool.{Bool, true, false, cond}
+use mathlib.Core.Path.{_≡_, refl, sym, ap, _∙_}
+use mathlib.Core.Bool.{Bool, true, false, cond, _&&_, _||_}
 use mathlib.Core.Logic.{_≢_}
 use mathlib.Core.List.{List, [], _∷_, _++_}
-use lib.Dec.{T}
+use lib.Dec.{T, eqb, leb, ltb}
 use lib.ListN.{length, set}
-use borrow.Author.Tests.{eq-eqb, ne-eqb}
+use borrow.Author.Tests.{eq-eqb, ne-eqb, eqb-false, leb-true, ltb-true, le-ltb}
 use Rattle.basics.specs.Refusals.{Refusal, first, Answers}
 use Rattle.basics.proofs.RefusalLaws.{numbered, first-refused, first-accepted, refuses, accepts}
-use Rattle.harness.specs.Boundary.{answerRefusal}
+use Rattle.harness.specs.Boundary.{answerRefusal, atLatest}
 
 -- a library's answer carried over to a list of refusals that gives the same number
 module _ {A B : Type 0} {L M : List Refusal} {keptA : A} {keptB : B} {RightA : A → Type 0} {RightB : B → Type 0} {n : ℕ} {x : A}
@@ -35,12 +35,54 @@ module _ (L : List Refusal) (t : T (numbered L)) (size : ℕ) (answer : List ℕ
       go (yes z) = first-accepted L ((11, false) ∷ []) t z ∙ sym z
       go (no n) = first-refused L ((11, false) ∷ []) n
 
-  module _ {A : Type 0} {kept : A} {Right : A → Type 0} where
-    pub answer-after : (n : ℕ) → n ≢ 0 → n ≡ first L → Answers (L ++ answerRefusal size answer ∷ []) kept Right n kept
-    answer-after n z e = refuses n z (e ∙ sym (first-refused L (answerRefusal size answer ∷ []) (λ q. z (e ∙ q))))
+-- AN ANSWER SLICE OF ANOTHER LENGTH: 11 stands between the lower numbers and the higher ones
+abbrev pub upToEleven : List Refusal → Bool
+upToEleven [] = true
+upToEleven (r ∷ rest) = leb (r .0) 11 && upToEleven rest
 
-    pub answer-other : length answer ≢ size → first L ≡ 0 → Answers (L ++ answerRefusal size answer ∷ []) kept Right 11 kept
-    answer-other a e = refuses 11 (λ q. absurd (omega arith)) (sym (first-accepted L (answerRefusal size answer ∷ []) t e ∙ rw (ne-eqb (length answer) size a)))
+abbrev aboveEleven : List Refusal → Bool
+aboveEleven [] = true
+aboveEleven (r ∷ rest) = ltb 11 (r .0) && aboveEleven rest
+
+lower-first : (xs : List Refusal) → T (upToEleven xs) → first xs ≤ 11
+lower-first [] t = omega arith
+lower-first (r ∷ xs) t = go (leb (r .0) 11) (r .1) refl t (lower-first xs)
+  where
+    go : (a b : Bool) → leb (r .0) 11 ≡ a → T (a && upToEleven xs) → (T (upToEleven xs) → first xs ≤ 11) → cond b (r .0) (first xs) ≤ 11
+    go true true e t ih = leb-true (r .0) 11 e
+    go true false e t ih = ih t
+    go false b e t ih = absurd t
+
+higher-first : (ys : List Refusal) → T (aboveEleven ys) → atLatest (first ys) ≡ 11
+higher-first [] t = refl
+higher-first (r ∷ ys) t = go (ltb 11 (r .0)) (r .1) refl t (higher-first ys)
+  where
+    go : (a b : Bool) → ltb 11 (r .0) ≡ a → T (a && aboveEleven ys) → (T (aboveEleven ys) → atLatest (first ys) ≡ 11) → atLatest (cond b (r .0) (first ys)) ≡ 11
+    go true true e t ih = let l = ltb-true 11 (r .0) e in rw (ne-eqb (r .0) 0 (λ z. absurd (omega arith)), e)
+    go true false e t ih = ih t
+    go false b e t ih = absurd t
+
+latest-some : (n : ℕ) → atLatest n ≢ 0
+latest-some n = go (eqb n 0) (ltb 11 n) refl
+  where
+    go : (a b : Bool) → eqb n 0 ≡ a → cond (a || b) 11 n ≢ 0
+    go true b e z = absurd (omega arith)
+    go false true e z = absurd (omega arith)
+    go false false e z = eqb-false n 0 e z
+
+module _ (xs ys : List Refusal) (t : T (numbered xs)) (lower : T (upToEleven xs)) (higher : T (aboveEleven ys)) where
+  eleven-between : atLatest (first (xs ++ ys)) ≡ first (xs ++ (11, true) ∷ ys)
+  eleven-between = go (ℕ-discrete (first xs) 0)
+    where
+      go : Dec (first xs ≡ 0) → atLatest (first (xs ++ ys)) ≡ first (xs ++ (11, true) ∷ ys)
+      go (yes z) = ap atLatest (first-accepted xs ys t z) ∙ higher-first ys higher ∙ sym (first-accepted xs ((11, true) ∷ ys) t z)
+      go (no n) = ap atLatest (first-refused xs ys n) ∙ kept n ∙ sym (first-refused xs ((11, true) ∷ ys) n)
+        where
+          kept : first xs ≢ 0 → atLatest (first xs) ≡ first xs
+          kept n = rw (ne-eqb (first xs) 0 n, le-ltb 11 (first xs) (lower-first xs lower))
+
+  pub latest-refuses : {A : Type 0} {kept : A} {Right : A → Type 0} (refusals : List Refusal) → first refusals ≡ first (xs ++ (11, true) ∷ ys) → {number n : ℕ} → number ≡ atLatest n → n ≡ first (xs ++ ys) → Answers refusals kept Right number kept
+  latest-refuses refusals same {number} {n} a e = refuses number (λ z. latest-some n (sym a ∙ z)) (a ∙ ap atLatest e ∙ eleven-between ∙ sym same)
 
 -- an answer slice of another length beside a room: whatever the room, 11 is the last number that is left
 module _ (L : List Refusal) (t : T (numbered L)) (short : Bool) where

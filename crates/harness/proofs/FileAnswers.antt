@@ -1,7 +1,7 @@
 -- The answers of the calls on files at the boundary, each from the tests that led to it and from the library's answer.
-use Prim.Native.Nat.{ℕ, _*_, _≤_, _<_}
+use Prim.Native.Nat.{ℕ, _*_}
 use native.Mathlib.Omega.{arith}
-use mathlib.Core.Path.{_≡_, refl, sym, ap, _∙_}
+use mathlib.Core.Path.{_≡_, sym, ap, _∙_}
 use mathlib.Core.Bool.{Bool, true, false, not}
 use mathlib.Core.Logic.{_≢_}
 use mathlib.Core.List.{List, [], _∷_, _++_}
@@ -17,9 +17,9 @@ use Rattle.run.specs.Continuing.{isDone}
 use Rattle.pbm.specs.Header.{Header, broken, whole, beginsP4, header}
 use Rattle.pbm.specs.Pbm.{pbmText, isBroken, frameOf, rasterOf, rasterRefusals, writeRefusals, ReadsPbm, WritesPbm}
 use Rattle.pgm.specs.WritePgm.{maximum, anyAbove, picture, pgmRefusals, WritesPgm}
-use Rattle.harness.specs.Boundary.{recordOf, holdsNoRecord, answerRefusal, atEleven}
+use Rattle.harness.specs.Boundary.{recordOf, holdsNoRecord, answerRefusal, atLatest}
 use Rattle.harness.specs.Files.{pictureRefusals, framed, ReadsSheet, WritesSheet, WritesPicture}
-use Rattle.harness.proofs.AnswerLaws.{carried-refusal, carried-answer, answer-fits, room-none, room-refused, room-zero, room-some, one-stored, two-stored}
+use Rattle.harness.proofs.AnswerLaws.{latest-refuses, carried-refusal, carried-answer, answer-fits, room-none, room-refused, room-zero, room-some, one-stored, two-stored}
 
 -- WRITING PBM
 module _ (width height : ℕ) (sheet out answer : List ℕ) where
@@ -77,55 +77,16 @@ module _ (file out frame : List ℕ) where
     read-accepts z = carried-answer p (fits (header file) (beginsP4 file)) z (after, set (set frame 0 width) 1 height) (λ q. rw (two-stored frame width height a) (ap framed q))
 
 -- WRITING PGM
--- with an answer slice of another length, the room makes no difference
-eleven-left : (r : Record) (levels room out : List ℕ) → first (atEleven (11, true) (pgmRefusals r levels room)) ≡ first (atEleven (11, true) (pgmRefusals r levels out))
-eleven-left r levels room out = go (recordBad r) (anyAbove (maximum r) levels) (not (eqb (length levels) (r .height * r .width))) (ltb (length room) (length (picture r levels))) (ltb (length out) (length (picture r levels)))
-  where
-    go : (a b c d e : Bool) → first ((1, a) ∷ (8, b) ∷ (10, c) ∷ (11, d) ∷ (11, true) ∷ (13, not (isDone r)) ∷ []) ≡ first ((1, a) ∷ (8, b) ∷ (10, c) ∷ (11, e) ∷ (11, true) ∷ (13, not (isDone r)) ∷ [])
-    go true b c d e = refl
-    go false true c d e = refl
-    go false false true d e = refl
-    go false false false true true = refl
-    go false false false true false = refl
-    go false false false false true = refl
-    go false false false false false = refl
-
--- what was judged over a room of its own
-module _ (r : Record) (levels room : List ℕ) (n : ℕ) (x : ℕ × List ℕ) (p : WritesPgm r levels room n x) where
-  abbrev Latest : ℕ → Type 0
-  Latest m = (m ≢ 0) × (m ≡ first (atEleven (11, true) (pgmRefusals r levels [])))
-
-  -- a number that is 0 or above 11 makes way for 11; another stays
-  latest : (a b c d f : Bool) → n ≡ first ((1, a) ∷ (8, b) ∷ (10, c) ∷ (11, d) ∷ (13, f) ∷ [])
-      → ((n ≡ 0 → 11 ≡ first ((1, a) ∷ (8, b) ∷ (10, c) ∷ (11, d) ∷ (11, true) ∷ (13, f) ∷ [])) × (11 < n → 11 ≡ first ((1, a) ∷ (8, b) ∷ (10, c) ∷ (11, d) ∷ (11, true) ∷ (13, f) ∷ [])))
-      × (n ≢ 0 → n ≤ 11 → n ≡ first ((1, a) ∷ (8, b) ∷ (10, c) ∷ (11, d) ∷ (11, true) ∷ (13, f) ∷ []))
-  latest true b c d f e = ((λ z. absurd (omega arith), λ z. absurd (omega arith)), λ z l. e)
-  latest false true c d f e = ((λ z. absurd (omega arith), λ z. absurd (omega arith)), λ z l. e)
-  latest false false true d f e = ((λ z. absurd (omega arith), λ z. absurd (omega arith)), λ z l. e)
-  latest false false false true f e = ((λ z. refl, λ z. refl), λ z l. e)
-  latest false false false false true e = ((λ z. refl, λ z. refl), λ z l. absurd (omega arith))
-  latest false false false false false e = ((λ z. refl, λ z. refl), λ z l. absurd (z e))
-
-  found : ((n ≡ 0 → 11 ≡ first (atEleven (11, true) (pgmRefusals r levels room))) × (11 < n → 11 ≡ first (atEleven (11, true) (pgmRefusals r levels room)))) × (n ≢ 0 → n ≤ 11 → n ≡ first (atEleven (11, true) (pgmRefusals r levels room)))
-  found = latest (recordBad r) (anyAbove (maximum r) levels) (not (eqb (length levels) (r .height * r .width))) (ltb (length room) (length (picture r levels))) (not (isDone r)) (p .refusal)
-
-  pub latest-none : n ≡ 0 → Latest 11
-  latest-none z = (λ q. absurd (omega arith), found .0 .0 z ∙ eleven-left r levels room [])
-
-  pub latest-above : 11 < n → Latest 11
-  latest-above l = (λ q. absurd (omega arith), found .0 .1 l ∙ eleven-left r levels room [])
-
-  pub latest-same : n ≢ 0 → n ≤ 11 → Latest n
-  latest-same z l = (z, found .1 z l ∙ eleven-left r levels room [])
-
 module _ (words levels out answer : List ℕ) where
   pub picture-words : holdsNoRecord words ≡ true → WritesPicture words levels out answer 1 (out, answer)
   picture-words h = refuses 1 (λ q. absurd (omega arith)) (rw h)
 
   module _ (h : holdsNoRecord words ≡ false) (run : Record) (q : run ≡ recordOf words) where
-    pub picture-other : length answer ≢ 1 → (n : ℕ) → (n ≢ 0) × (n ≡ first (atEleven (11, true) (pgmRefusals run levels []))) → WritesPicture words levels out answer n (out, answer)
-    picture-other a n (z, e) =
-        refuses n z (rw (h, ne-eqb (length answer) 1 a) (e ∙ ap (λ r. first (atEleven (11, true) (pgmRefusals r levels []))) q ∙ eleven-left (recordOf words) levels [] out))
+    pub picture-other : length answer ≢ 1 → {number n : ℕ} → number ≡ atLatest n → n ≡ first (pgmRefusals run levels out) → WritesPicture words levels out answer number (out, answer)
+    picture-other a e f =
+        let r = recordOf words in
+        latest-refuses ((1, recordBad r) ∷ (8, anyAbove (maximum r) levels) ∷ (10, not (eqb (length levels) (r .height * r .width))) ∷ (11, ltb (length out) (length (picture r levels))) ∷ []) ((13, not (isDone r)) ∷ []) tt tt tt
+        (pictureRefusals words levels out answer) (rw (h, ne-eqb (length answer) 1 a)) e (f ∙ ap (λ x. first (pgmRefusals x levels out)) q)
 
     module _ (a : length answer ≡ 1) (n size : ℕ) (after : List ℕ) (p : WritesPgm run levels out n (size, after)) where
       picture-fits : first (pictureRefusals words levels out answer) ≡ first (pgmRefusals (recordOf words) levels out)

@@ -4,8 +4,8 @@ use native.Mathlib.Omega.{arith}
 use mathlib.Core.Path.{_≡_, sym, ap, _∙_}
 use mathlib.Core.Bool.{Bool, true, false}
 use mathlib.Core.Logic.{_≢_}
-use mathlib.Core.List.{List, [], _∷_, _++_}
-use lib.Dec.{T}
+use mathlib.Core.List.{List, [], _∷_, _++_, append-nil}
+use lib.Dec.{T, ltb}
 use lib.ListN.{length, set}
 use borrow.Author.Tests.{eq-eqb, ne-eqb}
 use Rattle.basics.specs.Refusals.{Refusal, first, Answers}
@@ -14,9 +14,9 @@ use Rattle.run.specs.declared.Record.{Record}
 use Rattle.run.specs.Records.{recordBad, noRecord}
 use Rattle.run.specs.Continuing.{levelsWrong, continueRefusals, Continues}
 use Rattle.run.specs.Pictures.{Collects, Thresholds}
-use Rattle.harness.specs.Boundary.{wordsOf, recordOf, holdsNoRecord, wordsRefusal, answerRefusal, atEleven}
+use Rattle.harness.specs.Boundary.{wordsOf, recordOf, holdsNoRecord, wordsRefusal, answerRefusal, atEleven, atLatest}
 use Rattle.harness.specs.Runs.{flag, continueWords, ContinuesWords, CollectsWords, ThresholdsWords}
-use Rattle.harness.proofs.AnswerLaws.{carried, carried-refusal, carried-answer, answer-fits, one-stored}
+use Rattle.harness.proofs.AnswerLaws.{upToEleven, latest-refuses, carried, carried-refusal, carried-answer, answer-fits, one-stored}
 
 -- STARTING: the record goes into the words
 module _ (refusals : List Refusal) (t : T (numbered refusals)) (levels words : List ℕ) (a : length words ≡ 55) {begun : Record} {started : List ℕ} (n : ℕ) (run : Record) (after : List ℕ)
@@ -30,21 +30,21 @@ module _ (refusals : List Refusal) (t : T (numbered refusals)) (levels words : L
   pub start-accepts : n ≡ 0 → (next : List ℕ) → next ≡ wordsOf run → StartsWords 0 (after, next)
   start-accepts z next e = carried-answer p (answer-fits refusals t 55 words a) z (after, next) (λ q. rw e (ap (λ x. (x .1, wordsOf (x .0))) q))
 
+-- and where the words are of another length
+pub start-other : (refusals : List Refusal) → T (numbered refusals) → T (upToEleven refusals) → (levels words : List ℕ) {begun : Record} {started : List ℕ} → length words ≢ 55 → {number n : ℕ} → number ≡ atLatest n → n ≡ first refusals
+    → Answers {A = List ℕ × List ℕ} (refusals ++ answerRefusal 55 words ∷ []) (levels, words) (λ x. x ≡ (started, wordsOf begun)) number (levels, words)
+start-other refusals t u levels words a e f = latest-refuses refusals [] t u tt (refusals ++ answerRefusal 55 words ∷ []) (rw (ne-eqb (length words) 55 a)) e (f ∙ ap first (sym (append-nil refusals)))
+
 -- CONTINUING
 module _ (words levels : List ℕ) (allowance : ℕ) (done : List ℕ) where
   pub continue-words : holdsNoRecord words ≡ true → ContinuesWords words levels allowance done 1 (words, levels, done)
   continue-words h = refuses 1 (λ q. absurd (omega arith)) (rw h)
 
   module _ (h : holdsNoRecord words ≡ false) (run : Record) (q : run ≡ recordOf words) where
-    pub continue-bad : recordBad run ≡ true → ContinuesWords words levels allowance done 1 (words, levels, done)
-    continue-bad b = refuses 1 (λ z. absurd (omega arith)) (rw (h, ap recordBad (sym q) ∙ b))
-
-    module _ (b : recordBad run ≡ false) where
-      pub continue-levels : levelsWrong run levels ≡ true → ContinuesWords words levels allowance done 10 (words, levels, done)
-      continue-levels l = refuses 10 (λ z. absurd (omega arith)) (rw (h, ap recordBad (sym q) ∙ b, ap (λ r. levelsWrong r levels) (sym q) ∙ l))
-
-      pub continue-other : levelsWrong run levels ≡ false → length done ≢ 1 → ContinuesWords words levels allowance done 11 (words, levels, done)
-      continue-other l a = refuses 11 (λ z. absurd (omega arith)) (rw (h, ap recordBad (sym q) ∙ b, ap (λ r. levelsWrong r levels) (sym q) ∙ l, ne-eqb (length done) 1 a))
+    pub continue-other : length done ≢ 1 → {number n : ℕ} → number ≡ atLatest n → n ≡ first (continueRefusals run levels allowance) → ContinuesWords words levels allowance done number (words, levels, done)
+    continue-other a e f =
+        latest-refuses ((1, recordBad (recordOf words)) ∷ (10, levelsWrong (recordOf words) levels) ∷ []) ((12, ltb 8192 allowance) ∷ []) tt tt tt
+        (wordsRefusal words ∷ atEleven (answerRefusal 1 done) (continueRefusals (recordOf words) levels allowance)) (rw (h, ne-eqb (length done) 1 a)) e (f ∙ ap (λ r. first (continueRefusals r levels allowance)) q)
 
     module _ (a : length done ≡ 1) (n : ℕ) (next : Record) (all : Bool) (after : List ℕ) (p : Continues run levels allowance n (next, all, after)) where
       continue-fits : first (wordsRefusal words ∷ atEleven (answerRefusal 1 done) (continueRefusals (recordOf words) levels allowance)) ≡ first (continueRefusals (recordOf words) levels allowance)

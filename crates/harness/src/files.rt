@@ -1,13 +1,6 @@
 // Files: PBM read and written, and the picture of a finished run.
+use super::answers;
 use super::words;
-use run::Record;
-ghost use mathlib.Core.Path.{_≡_};
-ghost use mathlib.Core.Bool.{true};
-ghost use mathlib.Core.Logic.{_≢_};
-ghost use mathlib.Core.List.{[]};
-ghost use Rattle.basics.specs.Refusals.{first};
-ghost use Rattle.pgm.specs.WritePgm.{pgmRefusals};
-ghost use Rattle.harness.specs.Boundary.{atEleven};
 ghost use Rattle.harness.specs.Files.{ReadsSheet, WritesSheet, WritesPicture};
 
 // Public: reads a PBM file; the sheet goes to the front of `out`, the width and the height into `frame`. Refusals 21, 22, 2, 23, 24, 11.
@@ -63,22 +56,6 @@ pub extern "C" fn wt_write_pbm(
     0
 }
 
-// The refusal of a picture whose answer slice is of another length: 11 at the latest. It is judged over a room of our own.
-fn picture_refusal(run: Record, levels: &[u16]) -> u32
-    ensures { λ r. ⌜ (r ≢ 0) × (r ≡ first (atEleven (11, true) (pgmRefusals run (now (levels .entry)) []))) ⌝ }
-{
-    let mut room = [0u8; 1];
-    let judged = pgm::finished::write_pgm(run, levels, &mut room);
-    let refusal = judged.refusal;
-    if refusal == 0 {
-        return 11;
-    }
-    if 11 < refusal {
-        return 11;
-    }
-    refusal
-}
-
 // Public: writes the collected levels of a finished run as PGM to the front of `out`, and its length into `answer`. Refusals 1, 8, 10, 11, 13.
 #[no_mangle]
 pub extern "C" fn wt_write_pgm(
@@ -94,7 +71,8 @@ pub extern "C" fn wt_write_pgm(
     }
     let run = words::read_record(words);
     if answer.len() != 1 {
-        return picture_refusal(run, levels);
+        let refusal = pgm::finished::pgm_refusal(run, levels, out);
+        return answers::at_latest(refusal);
     }
     let written = pgm::finished::write_pgm(run, levels, out);
     let refusal = written.refusal;

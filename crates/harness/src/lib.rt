@@ -1,4 +1,5 @@
 // The library's boundary to C: each call of the library as a plain C function over numbers and slices.
+pub mod answers;
 pub mod files;
 pub mod filtering;
 pub mod runs;

@@ -1,4 +1,5 @@
 // Runs: started, continued, collected and thresholded, with the record as words.
+use super::answers;
 use super::words;
 ghost use mathlib.Core.Path.{_≡_};
 ghost use Rattle.harness.specs.Runs.{flag, StartsErosionWords, StartsDilationWords, ContinuesWords, CollectsWords, ThresholdsWords};
@@ -51,14 +52,9 @@ pub extern "C" fn wt_continue(
         return 1;
     }
     let run = words::read_record(words);
-    if run::records::record_bad(run) {
-        return 1;
-    }
-    if run::records::levels_wrong(run, levels) {
-        return 10;
-    }
     if done.len() != 1 {
-        return 11;
+        let refusal = run::continuing::continue_refusal(run, levels, allowance as usize);
+        return answers::at_latest(refusal);
     }
     let worked = run::continuing::continue_run(run, levels, allowance as usize);
     let refusal = worked.refusal;
@@ -97,10 +93,7 @@ pub extern "C" fn wt_start_erosion(
             cells,
             levels,
         );
-        if refusal != 0 {
-            return refusal;
-        }
-        return 11;
+        return answers::at_latest(refusal);
     }
     let started = run::starting::start_erosion(columns, rows, sheet, element_side, cells, levels);
     let refusal = started.refusal;
@@ -140,10 +133,7 @@ pub extern "C" fn wt_start_dilation(
             highest,
             levels,
         );
-        if refusal != 0 {
-            return refusal;
-        }
-        return 11;
+        return answers::at_latest(refusal);
     }
     let started = run::starting::start_dilation(
         columns,

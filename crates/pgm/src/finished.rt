@@ -45,7 +45,7 @@ fn any_above(limit: usize, levels: &[u16]) -> bool
 }
 
 // Refusals 1, 8, 10, 11 and 13, or 0.
-fn pgm_refusal(run: Record, levels: &[u16], out: &[u8]) -> u32
+pub fn pgm_refusal(run: Record, levels: &[u16], out: &[u8]) -> u32
     ensures { λ r. ⌜ r ≡ first (pgmRefusals run (now (levels .entry)) (now (out .entry))) ⌝ }
 {
     if run::records::record_bad(run) {

@@ -57,7 +57,7 @@ fn lesser(a: usize, b: usize) -> usize
 }
 
 // Refusals 1, 10 and 12 of a continue, or 0.
-fn continue_refusal(run: Record, levels: &[u16], allowance: usize) -> u32
+pub fn continue_refusal(run: Record, levels: &[u16], allowance: usize) -> u32
     ensures { λ r. ⌜ r ≡ first (continueRefusals run (now (levels .entry)) allowance) ⌝ }
 {
     if records::record_bad(run) {

@@ -1,14 +1,15 @@
--- Words of another length are judged after all that the library refuses; else the library answers.
+-- With words of another length only the refusal is judged; else the library answers.
 use Rattle.run.specs.Starting.{erosionRefusals}
-use Rattle.harness.proofs.AnswerLaws.{answer-after, answer-other}
-use Rattle.harness.proofs.RunAnswers.{start-refuses, start-accepts}
+use Rattle.harness.proofs.RunAnswers.{start-other, start-refuses, start-accepts}
 use borrow.Author.Needs.{needs}
-use mathlib.Core.Path.{sym, _∙_}
 use Rattle.harness.proofs.runs.wt_start_erosion.Statement.{statement}
 use Rattle.harness.proofs.runs.wt_start_erosion.Tie as tie
 
 erosion-refusal-requires : tie.Need-erosion-refusal-requires
 erosion-refusal-requires c κs = search needs
+
+at-latest-requires : tie.Need-at-latest-requires
+at-latest-requires c κs = search needs
 
 same-length : tie.Need-same-length
 same-length c = search needs
@@ -16,62 +17,52 @@ same-length c = search needs
 returns : tie.Need-returns
 returns c =
     let args = c .before .before .before .before .before .before .before .before .args in
-    let erosion-refusal = c .before .erosion-refusal in
-    answer-after (erosionRefusals (args .width) (args .height) (args .sheet .now) (args .side) (args .cells .now) (args .levels .now)) tt 55 (args .words .now) (erosion-refusal .result) (c .if2 .taken) (erosion-refusal .ensures)
+    let if1 = c .before .before .before .if1 in
+    start-other (erosionRefusals (args .width) (args .height) (args .sheet .now) (args .side) (args .cells .now) (args .levels .now)) tt tt (args .levels .now) (args .words .now) (if1 .taken) (c .at-latest .ensures) (c .before .erosion-refusal .ensures)
+
+start-erosion-requires : tie.Need-start-erosion-requires
+start-erosion-requires c κs = search needs
 
 same-length-2 : tie.Need-same-length-2
 same-length-2 c = search needs
 
 returns-2 : tie.Need-returns-2
 returns-2 c =
-    let args = c .before .before .before .before .before .before .before .before .args in
-    let if1 = c .before .before .before .if1 in
-    answer-other (erosionRefusals (args .width) (args .height) (args .sheet .now) (args .side) (args .cells .now) (args .levels .now)) tt 55 (args .words .now) (if1 .taken) (sym (c .before .erosion-refusal .ensures) ∙ c .if2 .left)
-
-start-erosion-requires : tie.Need-start-erosion-requires
-start-erosion-requires c κs = search needs
-
-same-length-3 : tie.Need-same-length-3
-same-length-3 c = search needs
-
-returns-3 : tie.Need-returns-3
-returns-3 c =
     let args = c .before .before .before .before .before .before .before .before .before .before .args in
     let if1 = c .before .before .before .before .before .if1 in
     let start-erosion = c .before .before .before .start-erosion in
-    start-refuses (erosionRefusals (args .width) (args .height) (args .sheet .now) (args .side) (args .cells .now) (args .levels .now)) tt (args .levels .now) (args .words .now) (if1 .left) (start-erosion .result .refusal) (start-erosion .result .run) (start-erosion .last .1 .1 .1 .1 .1 .0) (start-erosion .ensures) (c .if3 .taken)
+    start-refuses (erosionRefusals (args .width) (args .height) (args .sheet .now) (args .side) (args .cells .now) (args .levels .now)) tt (args .levels .now) (args .words .now) (if1 .left) (start-erosion .result .refusal) (start-erosion .result .run) (start-erosion .last .1 .1 .1 .1 .1 .0) (start-erosion .ensures) (c .if2 .taken)
 
 write-record-requires : tie.Need-write-record-requires
 write-record-requires c κs = c .before .before .before .before .before .before .before .if1 .left
 
+same-length-3 : tie.Need-same-length-3
+same-length-3 c = search needs
+
 same-length-4 : tie.Need-same-length-4
 same-length-4 c = search needs
 
-same-length-5 : tie.Need-same-length-5
-same-length-5 c = search needs
-
-returns-4 : tie.Need-returns-4
-returns-4 c =
+returns-3 : tie.Need-returns-3
+returns-3 c =
     let args = c .before .before .before .before .before .before .before .before .before .before .before .before .before .before .before .args in
     let if1 = c .before .before .before .before .before .before .before .before .before .before .if1 in
     let start-erosion = c .before .before .before .before .before .before .before .before .start-erosion in
-    let if3 = c .before .before .before .before .before .if3 in
+    let if2 = c .before .before .before .before .before .if2 in
     let write-record = c .before .before .write-record in
-    start-accepts (erosionRefusals (args .width) (args .height) (args .sheet .now) (args .side) (args .cells .now) (args .levels .now)) tt (args .levels .now) (args .words .now) (if1 .left) (start-erosion .result .refusal) (start-erosion .result .run) (start-erosion .last .1 .1 .1 .1 .1 .0) (start-erosion .ensures) (if3 .left) (write-record .last .1 .0) (write-record .ensures)
+    start-accepts (erosionRefusals (args .width) (args .height) (args .sheet .now) (args .side) (args .cells .now) (args .levels .now)) tt (args .levels .now) (args .words .now) (if1 .left) (start-erosion .result .refusal) (start-erosion .result .run) (start-erosion .last .1 .1 .1 .1 .1 .0) (start-erosion .ensures) (if2 .left) (write-record .last .1 .0) (write-record .ensures)
 
 pub wt-start-erosion-spec : {M : Type 1} → statement M
 wt-start-erosion-spec =
     tie.close
     (tie.spec
     erosion-refusal-requires
+    at-latest-requires
     same-length
     returns
+    start-erosion-requires
     same-length-2
     returns-2
-    start-erosion-requires
-    same-length-3
-    returns-3
     write-record-requires
+    same-length-3
     same-length-4
-    same-length-5
-    returns-4)
+    returns-3)
