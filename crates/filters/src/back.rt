@@ -19,16 +19,6 @@ pub fn finish(run: Record, levels: &mut [u16])
     run::continuing::continue_run(run, levels, 8192);
 }
 
-// `one` where a number is 1, as the kind of an erosion and a held pixel are, else `other`.
-fn where_one(number: u8, one: u16, other: u16) -> u16
-    ensures { λ r. ⌜ r ≡ cond (eqb number 1) one other ⌝ }
-{
-    if number == 1 {
-        return one;
-    }
-    other
-}
-
 fn other_kind(kind: u8) -> u8
     ensures { λ r. ⌜ r ≡ cond (eqb kind 1) 2 1 ⌝ }
 {
@@ -62,7 +52,7 @@ pub fn back_run(run: Record) -> Record
 pub fn choose(level: u16, low: u16, high: u16, on: u16, off: u16) -> u16
     ensures { λ r. ⌜ r ≡ chosen low high on off level ⌝ }
 {
-    where_one(run::pictures::held(level, low, high), on, off)
+    run::starting::where_one(run::pictures::held(level, low, high), on, off)
 }
 
 // Marks the second levels by the first: `on` where those are held, else `off`.
@@ -86,8 +76,8 @@ pub fn way_back(run: Record, size: usize, first: &[u16], second: &mut [u16])
     let other = back_run(run);
     let low = run::pictures::below_held(run, size);
     let high = run::pictures::highest_held(run, size);
-    let on = where_one(other.kind, 65535, 1);
-    let off = where_one(other.kind, 0, 65535);
+    let on = run::starting::where_one(other.kind, 65535, 1);
+    let off = run::starting::where_one(other.kind, 0, 65535);
     mark(first, low, high, on, off, second);
     finish(other, second);
 }

@@ -80,7 +80,7 @@ fn print_sheet(
     )
 }
 
-// Public: prints the erosion of an input to the front of `out`, and gives the text's length.
+// For the program: prints the erosion of an input to the front of `out`, and gives the text's length.
 pub fn print_erosion(
     input: &[u8],
     sheet: &mut [u8],

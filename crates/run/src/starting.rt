@@ -32,14 +32,14 @@ pub fn fill_level(levels: &mut [u16], at: usize, n: usize, level: u16)
     }
 }
 
-// The level that a pixel starts with.
-fn pixel_level(pixel: u8, on: u16, off: u16) -> u16
-    ensures { λ r. ⌜ r ≡ cond (eqb pixel 1) on off ⌝ }
+// `one` where a number is 1, as a pixel of the foreground and the kind of an erosion are, else `other`.
+pub fn where_one(number: u8, one: u16, other: u16) -> u16
+    ensures { λ r. ⌜ r ≡ cond (eqb number 1) one other ⌝ }
 {
-    if pixel == 1 {
-        return on;
+    if number == 1 {
+        return one;
     }
-    off
+    other
 }
 
 // The levels from `at` on become those of the pixels in a row of the frame.
@@ -57,7 +57,7 @@ fn fill_pixels(
 {
     let mut col = 0;
     while col < width {
-        let level = pixel_level(sheet::pixel_at(width, sheet, row, col), on, off);
+        let level = where_one(sheet::pixel_at(width, sheet, row, col), on, off);
         levels[at + col] = level;
         col += 1;
     }

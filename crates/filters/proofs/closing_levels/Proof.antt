@@ -10,21 +10,21 @@ filter-refusal-requires c κs = search needs
 
 returns : tie.Need-returns
 returns c =
-    let args-call = c .before .before .before .before .before .before .before .args in
-    closing-refuses (args-call .width) (args-call .height) (args-call .sheet .now) (args-call .side) (args-call .bytes .now) (args-call .cap) (record { first = args-call .first .now; second = args-call .second .now; out = args-call .out .now }) _ (c .if1 .taken) (c .before .filter-refusal .ensures)
+    let args = c .before .before .before .before .before .before .before .args in
+    closing-refuses (args .width) (args .height) (args .sheet .now) (args .side) (args .bytes .now) (args .cap) (record { first = args .first .now; second = args .second .now; out = args .out .now }) _ (c .if1 .taken) (c .before .filter-refusal .ensures)
 
 dilated-run-requires : tie.Need-dilated-run-requires
 dilated-run-requires c κs =
-    let args-call = c .before .before .before .before .before .before .before .before .args in
-    closing-started (args-call .width) (args-call .height) (args-call .sheet .now) (args-call .side) (args-call .bytes .now) (args-call .cap) (record { first = args-call .first .now; second = args-call .second .now; out = args-call .out .now }) (sym (c .before .before .filter-refusal .ensures) ∙ c .before .if1 .left)
+    let args = c .before .before .before .before .before .before .before .before .args in
+    closing-started (args .width) (args .height) (args .sheet .now) (args .side) (args .bytes .now) (args .cap) (record { first = args .first .now; second = args .second .now; out = args .out .now }) (sym (c .before .before .filter-refusal .ensures) ∙ c .before .if1 .left)
 
 filter-falling-requires : tie.Need-filter-falling-requires
 filter-falling-requires c κs =
-    let args-call = c .before .before .before .before .before .before .before .before .before .before .before .before .before .before .args in
+    let args = c .before .before .before .before .before .before .before .before .before .before .before .before .before .before .args in
     let filter-refusal = c .before .before .before .before .before .before .before .before .filter-refusal in
     let if1 = c .before .before .before .before .before .before .before .if1 in
     let dilated-run = c .before .before .before .before .before .dilated-run in
-    closing-ready (args-call .width) (args-call .height) (args-call .sheet .now) (args-call .side) (args-call .bytes .now) (args-call .cap) (record { first = args-call .first .now; second = args-call .second .now; out = args-call .out .now }) (sym (filter-refusal .ensures) ∙ if1 .left) (dilated-run .ensures)
+    closing-ready (args .width) (args .height) (args .sheet .now) (args .side) (args .bytes .now) (args .cap) (record { first = args .first .now; second = args .second .now; out = args .out .now }) (sym (filter-refusal .ensures) ∙ if1 .left) (dilated-run .ensures)
 
 same-length : tie.Need-same-length
 same-length c = search needs
@@ -37,12 +37,12 @@ same-length-3 c = search needs
 
 returns-2 : tie.Need-returns-2
 returns-2 c =
-    let args-call = c .before .before .before .before .before .before .before .before .before .before .before .before .before .before .before .before .before .before .before .before .before .args in
+    let args = c .before .before .before .before .before .before .before .before .before .before .before .before .before .before .before .before .before .before .before .before .before .args in
     let filter-refusal = c .before .before .before .before .before .before .before .before .before .before .before .before .before .before .before .filter-refusal in
     let if1 = c .before .before .before .before .before .before .before .before .before .before .before .before .before .before .if1 in
     let dilated-run = c .before .before .before .before .before .before .before .before .before .before .before .before .dilated-run in
     let filter-falling = c .before .before .before .before .before .before .filter-falling in
-    closing-accepts (args-call .width) (args-call .height) (args-call .sheet .now) (args-call .side) (args-call .bytes .now) (args-call .cap) (record { first = args-call .first .now; second = args-call .second .now; out = args-call .out .now }) (sym (filter-refusal .ensures) ∙ if1 .left) (dilated-run .ensures) _ (filter-falling .ensures .0) (filter-falling .ensures .1 .0) (filter-falling .ensures .1 .1)
+    closing-accepts (args .width) (args .height) (args .sheet .now) (args .side) (args .bytes .now) (args .cap) (record { first = args .first .now; second = args .second .now; out = args .out .now }) (sym (filter-refusal .ensures) ∙ if1 .left) (dilated-run .ensures) _ (filter-falling .ensures .0) (filter-falling .ensures .1 .0) (filter-falling .ensures .1 .1)
 
 pub closing-levels-spec : {M : Type 1} → statement M
 closing-levels-spec =

@@ -10,21 +10,21 @@ filter-refusal-requires c κs = search needs
 
 returns : tie.Need-returns
 returns c =
-    let args-call = c .before .before .before .before .before .before .before .args in
-    open-refuses (args-call .width) (args-call .height) (args-call .sheet .now) (args-call .side) (args-call .bytes .now) (args-call .size) (record { first = args-call .first .now; second = args-call .second .now; out = args-call .out .now }) _ (c .if1 .taken) (c .before .filter-refusal .ensures)
+    let args = c .before .before .before .before .before .before .before .args in
+    open-refuses (args .width) (args .height) (args .sheet .now) (args .side) (args .bytes .now) (args .size) (record { first = args .first .now; second = args .second .now; out = args .out .now }) _ (c .if1 .taken) (c .before .filter-refusal .ensures)
 
 eroded-run-requires : tie.Need-eroded-run-requires
 eroded-run-requires c κs =
-    let args-call = c .before .before .before .before .before .before .before .before .args in
-    open-started (args-call .width) (args-call .height) (args-call .sheet .now) (args-call .side) (args-call .bytes .now) (args-call .size) (record { first = args-call .first .now; second = args-call .second .now; out = args-call .out .now }) (sym (c .before .before .filter-refusal .ensures) ∙ c .before .if1 .left)
+    let args = c .before .before .before .before .before .before .before .before .args in
+    open-started (args .width) (args .height) (args .sheet .now) (args .side) (args .bytes .now) (args .size) (record { first = args .first .now; second = args .second .now; out = args .out .now }) (sym (c .before .before .filter-refusal .ensures) ∙ c .before .if1 .left)
 
 filter-sheet-requires : tie.Need-filter-sheet-requires
 filter-sheet-requires c κs =
-    let args-call = c .before .before .before .before .before .before .before .before .before .before .before .before .before .before .args in
+    let args = c .before .before .before .before .before .before .before .before .before .before .before .before .before .before .args in
     let filter-refusal = c .before .before .before .before .before .before .before .before .filter-refusal in
     let if1 = c .before .before .before .before .before .before .before .if1 in
     let eroded-run = c .before .before .before .before .before .eroded-run in
-    open-ready (args-call .width) (args-call .height) (args-call .sheet .now) (args-call .side) (args-call .bytes .now) (args-call .size) (record { first = args-call .first .now; second = args-call .second .now; out = args-call .out .now }) (sym (filter-refusal .ensures) ∙ if1 .left) (eroded-run .ensures)
+    open-ready (args .width) (args .height) (args .sheet .now) (args .side) (args .bytes .now) (args .size) (record { first = args .first .now; second = args .second .now; out = args .out .now }) (sym (filter-refusal .ensures) ∙ if1 .left) (eroded-run .ensures)
 
 same-length : tie.Need-same-length
 same-length c = search needs
@@ -37,12 +37,12 @@ same-length-3 c = search needs
 
 returns-2 : tie.Need-returns-2
 returns-2 c =
-    let args-call = c .before .before .before .before .before .before .before .before .before .before .before .before .before .before .before .before .before .before .before .before .before .args in
+    let args = c .before .before .before .before .before .before .before .before .before .before .before .before .before .before .before .before .before .before .before .before .before .args in
     let filter-refusal = c .before .before .before .before .before .before .before .before .before .before .before .before .before .before .before .filter-refusal in
     let if1 = c .before .before .before .before .before .before .before .before .before .before .before .before .before .before .if1 in
     let eroded-run = c .before .before .before .before .before .before .before .before .before .before .before .before .eroded-run in
     let filter-sheet = c .before .before .before .before .before .before .filter-sheet in
-    open-accepts (args-call .width) (args-call .height) (args-call .sheet .now) (args-call .side) (args-call .bytes .now) (args-call .size) (record { first = args-call .first .now; second = args-call .second .now; out = args-call .out .now }) (sym (filter-refusal .ensures) ∙ if1 .left) (eroded-run .ensures) _ (filter-sheet .ensures .0) (filter-sheet .ensures .1 .0) (filter-sheet .ensures .1 .1)
+    open-accepts (args .width) (args .height) (args .sheet .now) (args .side) (args .bytes .now) (args .size) (record { first = args .first .now; second = args .second .now; out = args .out .now }) (sym (filter-refusal .ensures) ∙ if1 .left) (eroded-run .ensures) _ (filter-sheet .ensures .0) (filter-sheet .ensures .1 .0) (filter-sheet .ensures .1 .1)
 
 pub open-spec : {M : Type 1} → statement M
 open-spec =

@@ -44,42 +44,38 @@ add-size-3 c =
 returns-2 : tie.Need-returns-2
 returns-2 c =
     let args = c .before .before .before .before .before .before .before .args in
-    let sheet-refusal-call = c .before .before .before .before .sheet-refusal in
+    let sheet-refusal = c .before .before .before .before .sheet-refusal in
     let if1 = c .before .before .before .if1 in
-    let sheet-refusal = sheet-refusal-call in
     write-room-refuses (args .width) (args .height) (args .sheet .now) (args .out .now) (sheet-refusal .result) (sheet-refusal .ensures) (if1 .left) _ (sizes _ _ _ _ (args .sheet .now) (c .before .before .digit-count .ensures) (c .before .digit-count2 .ensures)) (c .if2 .taken)
 
 write-header-requires : tie.Need-write-header-requires
 write-header-requires c κs =
     let args = c .before .before .before .before .before .before .before .before .args in
-    let sheet-refusal-call = c .before .before .before .before .before .sheet-refusal in
+    let sheet-refusal = c .before .before .before .before .before .sheet-refusal in
     let if1 = c .before .before .before .before .if1 in
     let digit-count = c .before .before .before .digit-count in
-    let sheet-refusal = sheet-refusal-call in
     header-room (args .width) (args .height) (args .sheet .now) (args .out .now) (sheet-refusal .result) (sheet-refusal .ensures) (if1 .left) _ (sizes _ _ _ _ (args .sheet .now) (digit-count .ensures) (c .before .before .digit-count2 .ensures)) (c .before .if2 .left)
 
 sub-copy-cleared : tie.Need-sub-copy-cleared
 sub-copy-cleared c =
     let args = c .before .before .before .before .before .before .before .before .before .before .before .args in
-    let sheet-refusal-call = c .before .before .before .before .before .before .before .before .sheet-refusal in
+    let sheet-refusal = c .before .before .before .before .before .before .before .before .sheet-refusal in
     let if1 = c .before .before .before .before .before .before .before .if1 in
     let digit-count = c .before .before .before .before .before .before .digit-count in
     let digit-count2 = c .before .before .before .before .before .digit-count2 in
     let if2 = c .before .before .before .before .if2 in
     let write-header = c .before .before .write-header in
-    let sheet-refusal = sheet-refusal-call in
     at-room (args .width) (args .height) (args .sheet .now) (args .out .now) (sheet-refusal .result) (sheet-refusal .ensures) (if1 .left) _ (sizes _ _ _ _ (args .sheet .now) (digit-count .ensures) (digit-count2 .ensures)) (if2 .left) (write-header .result) (write-header .last .1 .1 .0) (write-header .ensures)
 
 part-copy-cleared-start : tie.Need-part-copy-cleared-start
 part-copy-cleared-start c =
     let args = c .before .before .before .before .before .before .before .before .before .before .before .args in
-    let sheet-refusal-call = c .before .before .before .before .before .before .before .before .sheet-refusal in
+    let sheet-refusal = c .before .before .before .before .before .before .before .before .sheet-refusal in
     let if1 = c .before .before .before .before .before .before .before .if1 in
     let digit-count = c .before .before .before .before .before .before .digit-count in
     let digit-count2 = c .before .before .before .before .before .digit-count2 in
     let if2 = c .before .before .before .before .if2 in
     let write-header = c .before .before .write-header in
-    let sheet-refusal = sheet-refusal-call in
     at-room (args .width) (args .height) (args .sheet .now) (args .out .now) (sheet-refusal .result) (sheet-refusal .ensures) (if1 .left) _ (sizes _ _ _ _ (args .sheet .now) (digit-count .ensures) (digit-count2 .ensures)) (if2 .left) (write-header .result) (write-header .last .1 .1 .0) (write-header .ensures)
 
 part-copy-cleared-end : tie.Need-part-copy-cleared-end
@@ -88,18 +84,12 @@ part-copy-cleared-end c = search needs
 copy-cleared-requires : tie.Need-copy-cleared-requires
 copy-cleared-requires c κs =
     let args = c .before .before .before .before .before .before .before .before .before .before .before .before .args in
-    let sheet-refusal-call = c .before .before .before .before .before .before .before .before .before .sheet-refusal in
-    let if1-call = c .before .before .before .before .before .before .before .before .if1 in
-    let digit-count-call = c .before .before .before .before .before .before .before .digit-count in
-    let digit-count2-call = c .before .before .before .before .before .before .digit-count2 in
-    let if2-call = c .before .before .before .before .before .if2 in
-    let write-header-call = c .before .before .before .write-header in
-    let sheet-refusal = sheet-refusal-call in
-    let if1 = if1-call in
-    let digit-count = digit-count-call in
-    let digit-count2 = digit-count2-call in
-    let if2 = if2-call in
-    let write-header = write-header-call in
+    let sheet-refusal = c .before .before .before .before .before .before .before .before .before .sheet-refusal in
+    let if1 = c .before .before .before .before .before .before .before .before .if1 in
+    let digit-count = c .before .before .before .before .before .before .before .digit-count in
+    let digit-count2 = c .before .before .before .before .before .before .digit-count2 in
+    let if2 = c .before .before .before .before .before .if2 in
+    let write-header = c .before .before .before .write-header in
     let f = sheet-in (args .width) (args .height) (args .sheet .now) (args .out .now) (sheet-refusal .result) (sheet-refusal .ensures) (if1 .left) in
     (f .0, (f .1, (sheet-there (args .width) (args .height) (args .sheet .now) (args .out .now) (sheet-refusal .result) (sheet-refusal .ensures) (if1 .left) _ (sizes _ _ _ _ (args .sheet .now) (digit-count .ensures) (digit-count2 .ensures)) (if2 .left) (write-header .result) (write-header .last .1 .1 .0) (write-header .ensures), part-room (args .width) (args .height) (args .sheet .now) (args .out .now) (sheet-refusal .result) (sheet-refusal .ensures) (if1 .left) _ (sizes _ _ _ _ (args .sheet .now) (digit-count .ensures) (digit-count2 .ensures)) (if2 .left) (write-header .result) (write-header .last .1 .1 .0) (write-header .ensures))))
 
@@ -109,19 +99,13 @@ same-length c = search needs
 returns-3 : tie.Need-returns-3
 returns-3 c =
     let args = c .before .before .before .before .before .before .before .before .before .before .before .before .before .before .before .args in
-    let sheet-refusal-call = c .before .before .before .before .before .before .before .before .before .before .before .before .sheet-refusal in
-    let if1-call = c .before .before .before .before .before .before .before .before .before .before .before .if1 in
-    let digit-count-call = c .before .before .before .before .before .before .before .before .before .before .digit-count in
-    let digit-count2-call = c .before .before .before .before .before .before .before .before .before .digit-count2 in
-    let if2-call = c .before .before .before .before .before .before .before .before .if2 in
-    let write-header-call = c .before .before .before .before .before .before .write-header in
+    let sheet-refusal = c .before .before .before .before .before .before .before .before .before .before .before .before .sheet-refusal in
+    let if1 = c .before .before .before .before .before .before .before .before .before .before .before .if1 in
+    let digit-count = c .before .before .before .before .before .before .before .before .before .before .digit-count in
+    let digit-count2 = c .before .before .before .before .before .before .before .before .before .digit-count2 in
+    let if2 = c .before .before .before .before .before .before .before .before .if2 in
+    let write-header = c .before .before .before .before .before .before .write-header in
     let copy-cleared = c .before .before .copy-cleared in
-    let sheet-refusal = sheet-refusal-call in
-    let if1 = if1-call in
-    let digit-count = digit-count-call in
-    let digit-count2 = digit-count2-call in
-    let if2 = if2-call in
-    let write-header = write-header-call in
     write-accepts (args .width) (args .height) (args .sheet .now) (args .out .now) (sheet-refusal .result) (sheet-refusal .ensures) (if1 .left) _ (sizes _ _ _ _ (args .sheet .now) (digit-count .ensures) (digit-count2 .ensures)) (if2 .left) (write-header .result) (write-header .last .1 .1 .0) (write-header .ensures) (copy-cleared .last .1 .1 .1 .0) (copy-cleared .ensures)
 
 pub write-pbm-spec : {M : Type 1} → statement M

@@ -19,8 +19,8 @@ cast-count c = search needs
 rise-requires : tie.Need-rise-requires
 rise-requires c κs =
     let pre = c .before .before .before .before .before .before .before .before .before .before .pre in
-    let clear-call = c .before .before .before .before .before .clear in
-    (pre .0, (c .before .before .highest .ensures .least 4096 (pre .1 .0), ap length (clear-call .ensures) ∙ length-replicate _ _ ∙ pre .1 .1))
+    let clear = c .before .before .before .before .before .clear in
+    (pre .0, (c .before .before .highest .ensures .least 4096 (pre .1 .0), ap length (clear .ensures) ∙ length-replicate _ _ ∙ pre .1 .1))
 
 same-length : tie.Need-same-length
 same-length c = search needs
@@ -30,11 +30,11 @@ same-length-2 c = search needs
 
 returns : tie.Need-returns
 returns c =
-    let args-call = c .before .before .before .before .before .before .before .before .before .before .before .before .before .before .before .args in
-    let clear-call = c .before .before .before .before .before .before .before .before .before .before .clear in
-    let highest-call = c .before .before .before .before .before .before .before .highest in
-    let rise-call = c .before .before .before .before .rise in
-    record { most = highest-call .result; highest = highest-call .ensures; is = rise-call .ensures ∙ ap (rising (args-call .run) (args-call .first .now) (highest-call .result)) (clear-call .ensures) }
+    let args = c .before .before .before .before .before .before .before .before .before .before .before .before .before .before .before .args in
+    let clear = c .before .before .before .before .before .before .before .before .before .before .clear in
+    let highest = c .before .before .before .before .before .before .before .highest in
+    let rise = c .before .before .before .before .rise in
+    record { most = highest .result; highest = highest .ensures; is = rise .ensures ∙ ap (rising (args .run) (args .first .now) (highest .result)) (clear .ensures) }
 
 pub all-rising-spec : {M : Type 1} → statement M
 all-rising-spec =

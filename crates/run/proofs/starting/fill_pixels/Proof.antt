@@ -24,8 +24,8 @@ loop-holds c = (search needs, patch-none _ _ _)
 pixel-at-requires : tie.Need-pixel-at-requires Inv-loop μ-loop
 pixel-at-requires c κs = search needs
 
-pixel-level-requires : tie.Need-pixel-level-requires Inv-loop μ-loop
-pixel-level-requires c κs = search needs
+where-one-requires : tie.Need-where-one-requires Inv-loop μ-loop
+where-one-requires c κs = search needs
 
 add-levels : tie.Need-add-levels Inv-loop μ-loop
 add-levels c = search needs
@@ -46,7 +46,7 @@ loop-again : tie.Need-loop-again Inv-loop μ-loop
 loop-again c =
     let args = c .before .before .before .before .before .before .args in
     let loop = c .before .before .before .loop in
-    (omega arith, patch-turn (loop .inv .1) (c .pixel-level .result) (omega arith) (c .pixel-level .ensures ∙ ap (λ p. cond (eqb p 1) (args .on) (args .off)) (c .before .pixel-at .ensures)))
+    (omega arith, patch-turn (loop .inv .1) (c .where-one .result) (omega arith) (c .where-one .ensures ∙ ap (λ p. cond (eqb p 1) (args .on) (args .off)) (c .before .pixel-at .ensures)))
 
 same-length : tie.Need-same-length Inv-loop μ-loop
 same-length c = search needs
@@ -62,7 +62,7 @@ fill-pixels-spec =
     μ-loop
     loop-holds
     pixel-at-requires
-    pixel-level-requires
+    where-one-requires
     add-levels
     mul-levels
     slice-write-levels

@@ -1,7 +1,7 @@
 -- Each answer follows from the test.
 use Rattle.run.proofs.LevelLaws.{where-one, where-other}
-use Rattle.filters.proofs.back.where_one.Statement.{statement}
-use Rattle.filters.proofs.back.where_one.Tie as tie
+use Rattle.run.proofs.starting.where_one.Statement.{statement}
+use Rattle.run.proofs.starting.where_one.Tie as tie
 
 returns : tie.Need-returns
 returns c = where-one _ _ _ (c .if1 .taken)
