@@ -76,7 +76,8 @@ pub struct Number {
 // Reads the digits of `file` from `at` on, however many, as a number; one above the limit is read as the limit.
 pub fn read_number(file: &[u8], at: usize, limit: usize) -> Number
     requires { ⌜ (at ≤ length (now file)) × (limit < 4294967296) ⌝ }
-    ensures { λ r. ⌜ (r .next ≡ at + length (digitRun (drop at (now (file .entry))))) × (r .value ≡ min (value (digitRun (drop at (now (file .entry))))) limit) ⌝ }
+    ensures { λ r. ⌜ (r .next ≡ at + length (digitRun (drop at (now (file .entry))))) ×
+        (r .value ≡ min (value (digitRun (drop at (now (file .entry))))) limit) ⌝ }
 {
     let mut sum = 0;
     let mut i = at;

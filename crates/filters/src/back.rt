@@ -84,7 +84,8 @@ pub fn way_back(run: Record, size: usize, first: &[u16], second: &mut [u16])
 
 // The packed sheet of the frame's points that are held after the way back.
 fn pack_back(run: Record, size: usize, second: &[u16], out: &mut [u8])
-    requires { ⌜ (foreign run ≡ false) × ((length (now second) ≡ areaHeight run * areaWidth run) × ((size ≤ 4096) × (length (now out) ≡ run .height * rowBytes (run .width)))) ⌝ }
+    requires { ⌜ (foreign run ≡ false) × ((length (now second) ≡ areaHeight run * areaWidth run) × ((size ≤ 4096) ×
+        (length (now out) ≡ run .height * rowBytes (run .width)))) ⌝ }
     ensures { λ _. ⌜ now (out .exit) ≡ keptSheet run (now (second .entry)) size ⌝ }
 {
     let other = back_run(run);
@@ -112,7 +113,8 @@ pub fn clear_both(first: &mut [u16], second: &mut [u16])
 // The sheet at a size, from a finished run.
 fn sheet_back(run: Record, size: usize, first: &[u16], second: &mut [u16], out: &mut [u8])
     requires { ⌜ Ready run (now first) (now second) × ((size ≤ 4096) × (length (now out) ≡ run .height * rowBytes (run .width))) ⌝ }
-    ensures { λ _. ⌜ (length (now (second .exit)) ≡ length (now (second .entry))) × (now (out .exit) ≡ keptSheet run (wayBack run (now (first .entry)) size) size) ⌝ }
+    ensures { λ _. ⌜ (length (now (second .exit)) ≡ length (now (second .entry))) ×
+        (now (out .exit) ≡ keptSheet run (wayBack run (now (first .entry)) size) size) ⌝ }
 {
     way_back(run, size, first, second);
     pack_back(run, size, second, out);
@@ -121,7 +123,9 @@ fn sheet_back(run: Record, size: usize, first: &[u16], second: &mut [u16], out: 
 // The same, and both work buffers are cleared.
 pub fn filter_sheet(run: Record, size: usize, first: &mut [u16], second: &mut [u16], out: &mut [u8])
     requires { ⌜ Ready run (now first) (now second) × ((size ≤ 4096) × (length (now out) ≡ run .height * rowBytes (run .width))) ⌝ }
-    ensures { λ _. ⌜ (now (first .exit) ≡ replicate (length (now (first .entry))) 0) × ((now (second .exit) ≡ replicate (length (now (second .entry))) 0) × (now (out .exit) ≡ keptSheet run (wayBack run (now (first .entry)) size) size)) ⌝ }
+    ensures { λ _. ⌜ (now (first .exit) ≡ replicate (length (now (first .entry))) 0) ×
+        ((now (second .exit) ≡ replicate (length (now (second .entry))) 0) ×
+        (now (out .exit) ≡ keptSheet run (wayBack run (now (first .entry)) size) size)) ⌝ }
 {
     sheet_back(run, size, first, second, out);
     clear_both(first, second);

@@ -65,7 +65,8 @@ fn store_rows(
 
 // Stores a size and one at the points that are held after the way back.
 fn store_held(run: Record, size: usize, second: &[u16], out: &mut [u16])
-    requires { ⌜ (foreign run ≡ false) × ((length (now second) ≡ areaHeight run * areaWidth run) × ((size ≤ 4096) × (length (now out) ≡ run .height * run .width))) ⌝ }
+    requires { ⌜ (foreign run ≡ false) × ((length (now second) ≡ areaHeight run * areaWidth run) × ((size ≤ 4096) ×
+        (length (now out) ≡ run .height * run .width))) ⌝ }
     ensures { λ _. ⌜ now (out .exit) ≡ stored run (now (second .entry)) size (now (out .entry)) ⌝ }
 {
     let other = back::back_run(run);
@@ -79,7 +80,8 @@ fn store_held(run: Record, size: usize, second: &[u16], out: &mut [u16])
 // One size: the way back, and what it holds.
 fn one_size(run: Record, size: usize, first: &[u16], second: &mut [u16], out: &mut [u16])
     requires { ⌜ Ready run (now first) (now second) × ((size ≤ 4096) × (length (now out) ≡ run .height * run .width)) ⌝ }
-    ensures { λ _. ⌜ (length (now (second .exit)) ≡ length (now (second .entry))) × (now (out .exit) ≡ stored run (wayBack run (now (first .entry)) size) size (now (out .entry))) ⌝ }
+    ensures { λ _. ⌜ (length (now (second .exit)) ≡ length (now (second .entry))) ×
+        (now (out .exit) ≡ stored run (wayBack run (now (first .entry)) size) size (now (out .entry))) ⌝ }
 {
     back::way_back(run, size, first, second);
     store_held(run, size, second, out);
@@ -130,7 +132,8 @@ fn highest(levels: &[u16]) -> u16
 
 // The sizes below the highest of the first levels: no larger one holds anything.
 fn all_rising(run: Record, first: &[u16], second: &mut [u16], out: &mut [u16])
-    requires { ⌜ Ready run (now first) (now second) × (((k : ℕ) → k < length (now first) → getD (now first) k 0 ≤ 4096) × (length (now out) ≡ run .height * run .width)) ⌝ }
+    requires { ⌜ Ready run (now first) (now second) × (((k : ℕ) → k < length (now first) → getD (now first) k 0 ≤ 4096) ×
+        (length (now out) ≡ run .height * run .width)) ⌝ }
     ensures { λ _. ⌜ Risen run (now (first .entry)) (now (out .entry)) (now (out .exit)) ⌝ }
 {
     back::clear(out);
@@ -149,8 +152,10 @@ fn all_falling(run: Record, cap: usize, first: &[u16], second: &mut [u16], out: 
 
 // The opening levels from a finished erosion; both work buffers are cleared.
 pub fn filter_rising(run: Record, first: &mut [u16], second: &mut [u16], out: &mut [u16])
-    requires { ⌜ Ready run (now first) (now second) × (((k : ℕ) → k < length (now first) → getD (now first) k 0 ≤ 4096) × (length (now out) ≡ run .height * run .width)) ⌝ }
-    ensures { λ _. ⌜ (now (first .exit) ≡ replicate (length (now (first .entry))) 0) × ((now (second .exit) ≡ replicate (length (now (second .entry))) 0) × Risen run (now (first .entry)) (now (out .entry)) (now (out .exit))) ⌝ }
+    requires { ⌜ Ready run (now first) (now second) × (((k : ℕ) → k < length (now first) → getD (now first) k 0 ≤ 4096) ×
+        (length (now out) ≡ run .height * run .width)) ⌝ }
+    ensures { λ _. ⌜ (now (first .exit) ≡ replicate (length (now (first .entry))) 0) ×
+        ((now (second .exit) ≡ replicate (length (now (second .entry))) 0) × Risen run (now (first .entry)) (now (out .entry)) (now (out .exit))) ⌝ }
 {
     all_rising(run, first, second, out);
     back::clear_both(first, second);
@@ -165,7 +170,9 @@ pub fn filter_falling(
     out: &mut [u16],
 )
     requires { ⌜ Ready run (now first) (now second) × ((cap ≤ 2047) × (length (now out) ≡ run .height * run .width)) ⌝ }
-    ensures { λ _. ⌜ (now (first .exit) ≡ replicate (length (now (first .entry))) 0) × ((now (second .exit) ≡ replicate (length (now (second .entry))) 0) × (now (out .exit) ≡ falling run (now (first .entry)) (cap + 1) (replicate (length (now (out .entry))) 0))) ⌝ }
+    ensures { λ _. ⌜ (now (first .exit) ≡ replicate (length (now (first .entry))) 0) ×
+        ((now (second .exit) ≡ replicate (length (now (second .entry))) 0) ×
+        (now (out .exit) ≡ falling run (now (first .entry)) (cap + 1) (replicate (length (now (out .entry))) 0))) ⌝ }
 {
     all_falling(run, cap, first, second, out);
     back::clear_both(first, second);

@@ -23,7 +23,8 @@ fn eroded_run(
     levels: &mut [u16],
 ) -> Record
     requires { ⌜ first (erosionRefusals width height (now sheet) side (now bytes) (now levels)) ≡ 0 ⌝ }
-    ensures { λ r. ⌜ (r ≡ startRecord 1 width height 0 side (now (bytes .entry))) × (now (levels .exit) ≡ finished (startRecord 1 width height 0 side (now (bytes .entry))) (startLevels width height 0 (now (sheet .entry)) none 0)) ⌝ }
+    ensures { λ r. ⌜ (r ≡ startRecord 1 width height 0 side (now (bytes .entry))) ×
+        (now (levels .exit) ≡ finished (startRecord 1 width height 0 side (now (bytes .entry))) (startLevels width height 0 (now (sheet .entry)) none 0)) ⌝ }
 {
     let started = run::starting::start_erosion(width, height, sheet, side, bytes, levels);
     let run = started.run;
@@ -42,7 +43,8 @@ fn dilated_run(
     levels: &mut [u16],
 ) -> Record
     requires { ⌜ first (dilationRefusals width height (now sheet) side (now bytes) cap (now levels)) ≡ 0 ⌝ }
-    ensures { λ r. ⌜ (r ≡ startRecord 2 width height cap side (now (bytes .entry))) × (now (levels .exit) ≡ finished (startRecord 2 width height cap side (now (bytes .entry))) (startLevels width height (marginOf cap side) (now (sheet .entry)) 1 none)) ⌝ }
+    ensures { λ r. ⌜ (r ≡ startRecord 2 width height cap side (now (bytes .entry))) ×
+        (now (levels .exit) ≡ finished (startRecord 2 width height cap side (now (bytes .entry))) (startLevels width height (marginOf cap side) (now (sheet .entry)) 1 none)) ⌝ }
 {
     let started = run::starting::start_dilation(width, height, sheet, side, bytes, cap, levels);
     let run = started.run;
@@ -62,7 +64,9 @@ pub fn open(
     second: &mut [u16],
     out: &mut [u8],
 ) -> u32
-    ensures { λ r. ⌜ Opens width height (now (sheet .entry)) side (now (bytes .entry)) size (record { first = now (first .entry); second = now (second .entry); out = now (out .entry) }) r (record { first = now (first .exit); second = now (second .exit); out = now (out .exit) }) ⌝ }
+    ensures { λ r. ⌜ Opens width height (now (sheet .entry)) side (now (bytes .entry)) size
+        (record { first = now (first .entry); second = now (second .entry); out = now (out .entry) }) r
+        (record { first = now (first .exit); second = now (second .exit); out = now (out .exit) }) ⌝ }
 {
     let refusal = judging::filter_refusal(
         width,
@@ -97,7 +101,9 @@ pub fn close(
     second: &mut [u16],
     out: &mut [u8],
 ) -> u32
-    ensures { λ r. ⌜ Closes width height (now (sheet .entry)) side (now (bytes .entry)) size (record { first = now (first .entry); second = now (second .entry); out = now (out .entry) }) r (record { first = now (first .exit); second = now (second .exit); out = now (out .exit) }) ⌝ }
+    ensures { λ r. ⌜ Closes width height (now (sheet .entry)) side (now (bytes .entry)) size
+        (record { first = now (first .entry); second = now (second .entry); out = now (out .entry) }) r
+        (record { first = now (first .exit); second = now (second .exit); out = now (out .exit) }) ⌝ }
 {
     let refusal = judging::filter_refusal(
         width,
@@ -131,7 +137,9 @@ pub fn opening_levels(
     second: &mut [u16],
     out: &mut [u16],
 ) -> u32
-    ensures { λ r. ⌜ OpeningLevels width height (now (sheet .entry)) side (now (bytes .entry)) (record { first = now (first .entry); second = now (second .entry); out = now (out .entry) }) r (record { first = now (first .exit); second = now (second .exit); out = now (out .exit) }) ⌝ }
+    ensures { λ r. ⌜ OpeningLevels width height (now (sheet .entry)) side (now (bytes .entry))
+        (record { first = now (first .entry); second = now (second .entry); out = now (out .entry) }) r
+        (record { first = now (first .exit); second = now (second .exit); out = now (out .exit) }) ⌝ }
 {
     let refusal = judging::filter_refusal(
         width,
@@ -166,7 +174,9 @@ pub fn closing_levels(
     second: &mut [u16],
     out: &mut [u16],
 ) -> u32
-    ensures { λ r. ⌜ ClosingLevels width height (now (sheet .entry)) side (now (bytes .entry)) cap (record { first = now (first .entry); second = now (second .entry); out = now (out .entry) }) r (record { first = now (first .exit); second = now (second .exit); out = now (out .exit) }) ⌝ }
+    ensures { λ r. ⌜ ClosingLevels width height (now (sheet .entry)) side (now (bytes .entry)) cap
+        (record { first = now (first .entry); second = now (second .entry); out = now (out .entry) }) r
+        (record { first = now (first .exit); second = now (second .exit); out = now (out .exit) }) ⌝ }
 {
     let refusal = judging::filter_refusal(
         width,

@@ -14,7 +14,9 @@ pub extern "C" fn wt_open(
     second: &mut [u16],
     out: &mut [u8],
 ) -> u32
-    ensures { λ r. ⌜ Opens width height (now (sheet .entry)) side (now (cells .entry)) size (record { first = now (first .entry); second = now (second .entry); out = now (out .entry) }) r (record { first = now (first .exit); second = now (second .exit); out = now (out .exit) }) ⌝ }
+    ensures { λ r. ⌜ Opens width height (now (sheet .entry)) side (now (cells .entry)) size
+        (record { first = now (first .entry); second = now (second .entry); out = now (out .entry) }) r
+        (record { first = now (first .exit); second = now (second .exit); out = now (out .exit) }) ⌝ }
 {
     filters::open(
         width as usize,
@@ -42,7 +44,9 @@ pub extern "C" fn wt_close(
     second: &mut [u16],
     out: &mut [u8],
 ) -> u32
-    ensures { λ r. ⌜ Closes width height (now (sheet .entry)) side (now (cells .entry)) size (record { first = now (first .entry); second = now (second .entry); out = now (out .entry) }) r (record { first = now (first .exit); second = now (second .exit); out = now (out .exit) }) ⌝ }
+    ensures { λ r. ⌜ Closes width height (now (sheet .entry)) side (now (cells .entry)) size
+        (record { first = now (first .entry); second = now (second .entry); out = now (out .entry) }) r
+        (record { first = now (first .exit); second = now (second .exit); out = now (out .exit) }) ⌝ }
 {
     filters::close(
         width as usize,
@@ -69,7 +73,9 @@ pub extern "C" fn wt_opening_levels(
     second: &mut [u16],
     out: &mut [u16],
 ) -> u32
-    ensures { λ r. ⌜ OpeningLevels width height (now (sheet .entry)) side (now (cells .entry)) (record { first = now (first .entry); second = now (second .entry); out = now (out .entry) }) r (record { first = now (first .exit); second = now (second .exit); out = now (out .exit) }) ⌝ }
+    ensures { λ r. ⌜ OpeningLevels width height (now (sheet .entry)) side (now (cells .entry))
+        (record { first = now (first .entry); second = now (second .entry); out = now (out .entry) }) r
+        (record { first = now (first .exit); second = now (second .exit); out = now (out .exit) }) ⌝ }
 {
     filters::opening_levels(
         width as usize,
@@ -96,7 +102,9 @@ pub extern "C" fn wt_closing_levels(
     second: &mut [u16],
     out: &mut [u16],
 ) -> u32
-    ensures { λ r. ⌜ ClosingLevels width height (now (sheet .entry)) side (now (cells .entry)) cap (record { first = now (first .entry); second = now (second .entry); out = now (out .entry) }) r (record { first = now (first .exit); second = now (second .exit); out = now (out .exit) }) ⌝ }
+    ensures { λ r. ⌜ ClosingLevels width height (now (sheet .entry)) side (now (cells .entry)) cap
+        (record { first = now (first .entry); second = now (second .entry); out = now (out .entry) }) r
+        (record { first = now (first .exit); second = now (second .exit); out = now (out .exit) }) ⌝ }
 {
     filters::closing_levels(
         width as usize,

@@ -207,7 +207,8 @@ pub fn write_pgm_text(
     out: &mut [u8],
 ) -> usize
     requires { ⌜ (Picture width height maximum done due (now levels)) × (length (pgmText width height maximum done due (now levels)) ≤ length (now out)) ⌝ }
-    ensures { λ r. ⌜ (r ≡ length (pgmText width height maximum done due (now (levels .entry)))) × (now (out .exit) ≡ begun (pgmText width height maximum done due (now (levels .entry))) (now (out .entry))) ⌝ }
+    ensures { λ r. ⌜ (r ≡ length (pgmText width height maximum done due (now (levels .entry)))) ×
+        (now (out .exit) ≡ begun (pgmText width height maximum done due (now (levels .entry))) (now (out .entry))) ⌝ }
 {
     let start = write_header(b"P2", done, due, width, height, maximum, out, 0);
     write_levels(width, height, levels, out, start)

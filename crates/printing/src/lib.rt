@@ -26,7 +26,8 @@ fn run_erosion(
     collected: &mut [u16],
 ) -> Record
     requires { ⌜ SoundSheet width height (now sheet) × ((length (now levels) ≡ height * width) × (length (now collected) ≡ height * width)) ⌝ }
-    ensures { λ r. ⌜ (r ≡ withRows (crossRun width height) (due (crossRun width height))) × (now (collected .exit) ≡ crossLevels width height (now (sheet .entry))) ⌝ }
+    ensures { λ r. ⌜ (r ≡ withRows (crossRun width height) (due (crossRun width height))) ×
+        (now (collected .exit) ≡ crossLevels width height (now (sheet .entry))) ⌝ }
 {
     let cross = [0u8, 1, 0, 1, 1, 1, 0, 1, 0];
     let started = run::starting::start_erosion(width, height, sheet, 3, &cross, levels);
@@ -46,7 +47,8 @@ fn print_levels(
     collected: &mut [u16],
     out: &mut [u8],
 ) -> usize
-    requires { ⌜ SoundSheet width height (now sheet) × ((length (now levels) ≡ height * width) × ((length (now collected) ≡ height * width) × ((width * height ≤ 16384) × (98432 ≤ length (now out))))) ⌝ }
+    requires { ⌜ SoundSheet width height (now sheet) × ((length (now levels) ≡ height * width) ×
+        ((length (now collected) ≡ height * width) × ((width * height ≤ 16384) × (98432 ≤ length (now out))))) ⌝ }
     ensures { λ r. ⌜ Prints (sheetText width height (now (sheet .entry))) r (now (out .exit)) ⌝ }
 {
     let run = run_erosion(width, height, sheet, levels, collected);

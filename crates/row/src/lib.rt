@@ -98,7 +98,8 @@ fn by_cell(
     beyond: u16,
 )
     requires { ⌜ (length (now part) ≡ rows * width) × ((row < rows) × ((rows ≤ 4096) × ((k < 49) × ((k < 21) ⊎ (28 ≤ k))))) ⌝ }
-    ensures { λ _. ⌜ Pass (row * width) width (λ col. least (record { width = width; height = rows; beyond = beyond; cells = cells }) (now (part .entry)) row col k 1) (now (part .entry)) (now (part .exit)) ⌝ }
+    ensures { λ _. ⌜ Pass (row * width) width (λ col. least
+        (record { width = width; height = rows; beyond = beyond; cells = cells }) (now (part .entry)) row col k 1) (now (part .entry)) (now (part .exit)) ⌝ }
 {
     if cells[k / 7][k % 7] == 0 {
         return;
@@ -130,7 +131,8 @@ fn by_other_rows(
     beyond: u16,
 )
     requires { ⌜ (length (now part) ≡ rows * width) × ((row < rows) × (rows ≤ 4096)) ⌝ }
-    ensures { λ _. ⌜ Pass (row * width) width (λ col. least (record { width = width; height = rows; beyond = beyond; cells = cells }) (now (part .entry)) row col (firstOther upward) 21) (now (part .entry)) (now (part .exit)) ⌝ }
+    ensures { λ _. ⌜ Pass (row * width) width (λ col. least
+        (record { width = width; height = rows; beyond = beyond; cells = cells }) (now (part .entry)) row col (firstOther upward) 21) (now (part .entry)) (now (part .exit)) ⌝ }
 {
     let first = first_other(upward);
     let mut n = 0;
