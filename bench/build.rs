@@ -1,4 +1,4 @@
-//! Compiles the C scans, and the shims over OpenCV and leptonica where these are installed; else files that say so. The
+//! Compiles the C scans, and the shims over OpenCV and leptonica where these are installed; where they are not, the shims say so. The
 //! crate `walugtirim` brings the verified library.
 
 use std::env;
@@ -7,6 +7,9 @@ use std::process::Command;
 
 fn main() {
     println!("cargo:rerun-if-changed=c");
+    // A header that is not there makes cargo run this again, so libraries installed later are found.
+    println!("cargo:rerun-if-changed=/usr/include/opencv4/opencv2/imgproc.hpp");
+    println!("cargo:rerun-if-changed=/usr/include/leptonica/allheaders.h");
     println!("cargo:rerun-if-env-changed=CC");
     println!("cargo:rerun-if-env-changed=CXX");
     let c = env::var("CC").unwrap_or_else(|_| "cc".to_string());

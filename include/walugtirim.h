@@ -2,7 +2,7 @@
  * walugtirim: erosion, dilation, opening and closing of bilevel sheets.
  *
  * This is the C boundary of the verified library. Link it with the static archive libharness.a; the archive needs
- * no other library.
+ * no library but C's own (memset).
  *
  * Words
  *

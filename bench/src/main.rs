@@ -2,7 +2,7 @@
 //!
 //! Usage: `bench [--quick]`
 //!
-//! All are worked one thread each, turn by turn, so that a slow moment of the machine meets all of them; medians of the
+//! Each works in one thread, turn by turn, so that a slow moment of the machine meets all of them; medians of the
 //! processor time are given, and how far wall time lies above it. Buffers are allocated and touched beforehand. A run
 //! of the library is its start and all its rows; a run of a scan in C is the same unpacking, done here, and the scan.
 //! OpenCV and leptonica are given pictures in their own layout, made beforehand, and answer in theirs.

@@ -65,7 +65,7 @@ pub fn opencv(
     chessboard: bool,
 ) -> bool {
     assert!(pixels.len() == width * height && out.len() == width * height);
-    let call = unsafe {
+    let found = unsafe {
         opencv_distance(
             pixels.as_ptr(),
             width,
@@ -74,7 +74,7 @@ pub fn opencv(
             c_int::from(chessboard),
         )
     };
-    call != 0
+    found != 0
 }
 
 /// A sheet as leptonica holds it.

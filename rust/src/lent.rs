@@ -1,5 +1,7 @@
-//! What each slice has to hold is said in `include/walugtirim.h`. Of the refusals listed with a function, the first
-//! that applies is given.
+//! One safe function over each C function, on the caller's own buffers: for callers that keep these between calls.
+//!
+//! What each slice has to hold is said in `include/walugtirim.h`. Of the refusals listed with a function, in their
+//! order, the first that applies is given.
 //!
 //! This is the only module with `unsafe`. Every slice goes over as its pointer and its count, so the two always belong
 //! together, and Rust's own rules keep a slice that is written from overlapping another. The library accepts any
@@ -25,7 +27,9 @@ pub struct Given<'a> {
 }
 
 /// Starts an erosion and answers its record. The levels are as many as the frame has points.
-/// Refusals: 2 to 7, 10.
+///
+/// # Errors
+/// 2 to 7, 10, the first that applies.
 pub fn start_erosion(given: Given, levels: &mut [u16]) -> Result<Record, Refusal> {
     let mut record = [0; RECORD_WORDS];
     let number = unsafe {
@@ -48,7 +52,9 @@ pub fn start_erosion(given: Given, levels: &mut [u16]) -> Result<Record, Refusal
 }
 
 /// Starts a dilation up to a cap and answers its record. The levels are as many as the canvas has points.
-/// Refusals: 2 to 10.
+///
+/// # Errors
+/// 2 to 10, the first that applies.
 pub fn start_dilation(given: Given, cap: u64, levels: &mut [u16]) -> Result<Record, Refusal> {
     let mut record = [0; RECORD_WORDS];
     let number = unsafe {
@@ -72,7 +78,9 @@ pub fn start_dilation(given: Given, cap: u64, levels: &mut [u16]) -> Result<Reco
 }
 
 /// Works so many rows, or those still due where these are fewer. Answers whether all are done.
-/// Refusals: 1, 10, 12.
+///
+/// # Errors
+/// 1, 10, 12, the first that applies.
 pub fn continue_run(
     record: &mut Record,
     levels: &mut [u16],
@@ -95,7 +103,9 @@ pub fn continue_run(
 }
 
 /// Gives the levels of the frame, once all rows are done.
-/// Refusals: 1, 10, 11, 13.
+///
+/// # Errors
+/// 1, 10, 11, 13, the first that applies.
 pub fn collect(record: &Record, levels: &[u16], out: &mut [u16]) -> Result<(), Refusal> {
     Refusal::check(unsafe {
         c::wt_collect(
@@ -110,7 +120,9 @@ pub fn collect(record: &Record, levels: &[u16], out: &mut [u16]) -> Result<(), R
 }
 
 /// Gives the eroded or dilated sheet of one size, once all rows are done.
-/// Refusals: 1, 8, 10, 11, 13.
+///
+/// # Errors
+/// 1, 8, 10, 11, 13, the first that applies.
 pub fn threshold(
     record: &Record,
     levels: &[u16],
@@ -166,7 +178,9 @@ fn filter<T>(
 }
 
 /// Opens a sheet by a size. Each work buffer has as many levels as the frame has points.
-/// Refusals: 2 to 8, 10, 11.
+///
+/// # Errors
+/// 2 to 8, 10, 11, the first that applies.
 pub fn open(
     given: Given,
     size: u64,
@@ -177,8 +191,10 @@ pub fn open(
     filter(c::wt_open, given, size, work_a, work_b, out)
 }
 
-/// Closes a sheet by a size. Each work buffer has as many levels as the canvas of that cap has points.
-/// Refusals: 2 to 11.
+/// Closes a sheet by a size. Each work buffer has as many levels as the canvas whose cap is the size has points.
+///
+/// # Errors
+/// 2 to 11, the first that applies.
 pub fn close(
     given: Given,
     size: u64,
@@ -190,7 +206,9 @@ pub fn close(
 }
 
 /// Gives the opening levels of the frame. Each work buffer has as many levels as the frame has points.
-/// Refusals: 2 to 7, 10, 11.
+///
+/// # Errors
+/// 2 to 7, 10, 11, the first that applies.
 pub fn opening_levels(
     given: Given,
     work_a: &mut [u16],
@@ -217,7 +235,9 @@ pub fn opening_levels(
 }
 
 /// Gives the closing levels of the frame, up to a cap. Each work buffer has as many levels as the canvas has points.
-/// Refusals: 2 to 11.
+///
+/// # Errors
+/// 2 to 11, the first that applies.
 pub fn closing_levels(
     given: Given,
     cap: u64,
@@ -229,7 +249,9 @@ pub fn closing_levels(
 }
 
 /// Gives the cells of the element turned about its origin.
-/// Refusals: 4 to 7, 11.
+///
+/// # Errors
+/// 4 to 7, 11, the first that applies.
 pub fn reflect(side: u64, cells: &[u8], out: &mut [u8]) -> Result<(), Refusal> {
     Refusal::check(unsafe {
         c::wt_reflect(
@@ -243,7 +265,9 @@ pub fn reflect(side: u64, cells: &[u8], out: &mut [u8]) -> Result<(), Refusal> {
 }
 
 /// Reads the raster of a raw PBM file into the first bytes of `out`. Answers the width and the height.
-/// Refusals: 21, 22, 2, 23, 24, 11.
+///
+/// # Errors
+/// 21, 22, 2, 23, 24, 11, the first that applies.
 pub fn read_pbm(file: &[u8], out: &mut [u8]) -> Result<[u64; 2], Refusal> {
     let mut frame = [0; 2];
     let number = unsafe {
@@ -261,7 +285,9 @@ pub fn read_pbm(file: &[u8], out: &mut [u8]) -> Result<[u64; 2], Refusal> {
 }
 
 /// Writes a raw PBM file into the first bytes of `out`. Answers the length of the file.
-/// Refusals: 2, 3, 11.
+///
+/// # Errors
+/// 2, 3, 11, the first that applies.
 pub fn write_pbm(width: u64, height: u64, sheet: &[u8], out: &mut [u8]) -> Result<u64, Refusal> {
     let mut length = [0];
     let number = unsafe {
@@ -281,7 +307,9 @@ pub fn write_pbm(width: u64, height: u64, sheet: &[u8], out: &mut [u8]) -> Resul
 }
 
 /// Writes collected levels as a plain PGM file into the first bytes of `out`. Answers the length of the file.
-/// Refusals: 1, 8, 10, 11, 13.
+///
+/// # Errors
+/// 1, 8, 10, 11, 13, the first that applies.
 pub fn write_pgm(record: &Record, levels: &[u16], out: &mut [u8]) -> Result<u64, Refusal> {
     let mut length = [0];
     let number = unsafe {

@@ -22,7 +22,6 @@
 //! frame of 2^60 by 2^60, say), it lends an empty buffer, and the library gives the refusal that comes first.
 #![deny(unsafe_code)]
 
-/// One safe function over each C function, on the caller's own buffers: for callers that keep these between calls.
 pub mod lent;
 mod refusal;
 mod room;
@@ -37,7 +36,7 @@ pub const RECORD_WORDS: usize = 55;
 /// The largest allowance that [`Run::continue_by`] accepts.
 pub const MOST_ALLOWANCE: u64 = 8192;
 
-/// What [`lent::open`] and [`lent::close`] are.
+/// The type of [`lent::open`] and [`lent::close`].
 type Filter = fn(Given, u64, &mut [u16], &mut [u16], &mut [u8]) -> Result<(), Refusal>;
 
 /// A bilevel sheet: the raster of a raw PBM, with its frame.

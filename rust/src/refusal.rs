@@ -30,7 +30,7 @@ const SENTENCES: [(u32, &str); 17] = [
     (7, "the element's centre is its only point"),
     (
         8,
-        "a size or cap lies outside its range, or a level above the maximum",
+        "a size or cap lies outside its range, or a level is above the maximum",
     ),
     (9, "a canvas side exceeds 4096"),
     (10, "the length of the levels or of a work buffer is wrong"),

@@ -1,4 +1,4 @@
--- Two lists of refusals in a row: what one function judged of the first list carries over to the whole.
+-- Lists of refusals, two in a row judged one after the other; and Answers: a refusing and an accepting call, and no second outcome.
 use Prim.Native.Nat.{ℕ}
 use mathlib.Core.Path.{_≡_, refl, sym, _∙_}
 use mathlib.Core.Bool.{Bool, true, false, not, cond, _&&_}
@@ -47,7 +47,7 @@ first-both xs ys t e = go (ℕ-discrete (first xs) 0)
     go (yes z) = (z, sym (first-accepted xs ys t z) ∙ e)
     go (no n) = absurd (n (sym (first-refused xs ys n) ∙ e))
 
--- what was accepted was judged false, one refusal after the other
+-- where a call is accepted, each of its refusals was found not to apply
 pub passed : (n : ℕ) (b : Bool) (rest : List Refusal) → n ≢ 0 → first ((n, b) ∷ rest) ≡ 0 → (b ≡ false) × (first rest ≡ 0)
 passed n true rest z e = absurd (z e)
 passed n false rest z e = (refl, e)

@@ -1,5 +1,5 @@
 -- What an accepted element is: bytes 0 and 1 in a square of its side, with its centre set and not alone.
--- The list of refusals is gone through one by one, each judged false.
+-- Where an element is accepted, each of its refusals was found not to apply.
 use Prim.Native.Nat.{ℕ, zero, suc, _+_, _*_, _/_, _%_, _≤_, _<_}
 use native.Mathlib.Decide.{ℕ-discrete}
 use native.Mathlib.Omega.{arith}

@@ -29,7 +29,7 @@ entries-sheet t width n e q l = (rw e q, omega arith)
 pub entries-levels : (t : Bool) (width : ℕ) → t ≡ false → width ≤ 4096 → (width ≡ entriesOf t width) × (width ≤ 4096)
 entries-levels t width e l = (rw e, l)
 
--- refusals 9 to 11: those of a canvas, of whose size both work buffers are, and the output's
+-- refusals 9 to 11: those of a canvas whose size both work buffers have, and the output's
 module _ (width height cap side work spare room entries : ℕ) where
   pub room-canvas : {number : ℕ} → number ≢ 0 → number ≡ first (canvasRefusals width height cap side work) → number ≡ first (roomRefusals width height cap side work spare room entries)
   room-canvas {number} = go (canvasWrong width height cap side) (eqb work (canvasSize width height cap side))
@@ -115,7 +115,7 @@ module _ (width height : ℕ) (sheet : List ℕ) (side : ℕ) (bytes : List ℕ)
   pub no-canvas : canvasSize width height 0 side ≡ height * width
   no-canvas = let z = zero-mul (reach side) in ap₂ (λ h w. h * w) (let e : canvasSide height (marginOf 0 side) ≡ height = omega arith in e) (let e : canvasSide width (marginOf 0 side) ≡ width = omega arith in e)
 
-  -- so 9 never applies, and its list may be left out
+  -- so 9 never applies, and may be left out of the list
   pub frame-refusals : (bad : Bool) (work spare room entries : ℕ) (shorter : List Refusal)
       → first ((8, bad) ∷ (10, not (eqb work (height * width)) || not (eqb spare (height * width))) ∷ (11, not (eqb room (height * entries))) ∷ []) ≡ first shorter
       → first (filterRefusals width height sheet side bytes bad 0 work spare room entries) ≡ first (both ++ shorter)

@@ -4,15 +4,16 @@ use Prim.Native.Nat.{ℕ, _*_, _≤_, _<_}
 use native.Mathlib.Decide.{ℕ-discrete, decLe, decLt}
 use native.Mathlib.Nat.{le-of-eq}
 use native.Mathlib.Omega.{arith}
-use mathlib.Core.Path.{_≡_, refl, sym, subst, _∙_}
+use mathlib.Core.Path.{_≡_, refl, sym, ap, subst, _∙_}
 use mathlib.Core.Bool.{not, _||_}
 use mathlib.Core.Logic.{_↔_, inl, inr}
 use mathlib.Core.List.{List, [], _∷_, _++_}
 use lib.Dec.{eqb, ltb}
 use lib.IntN.{pos}
-use lib.ListN.{length}
+use lib.ListN.{length, replicate}
 use Rattle.basics.specs.Refusals.{Refusal, first, Answers}
 use Rattle.basics.specs.Tables.{table, raster}
+use Rattle.basics.proofs.RefusalLaws.{accepts, answers-unique}
 use Rattle.basics.proofs.TableLaws.{length-raster, getD-raster}
 use Rattle.grid.specs.Points.{Point, at}
 use Rattle.grid.specs.Sets.{PointSet}
@@ -27,19 +28,22 @@ use Rattle.element.proofs.Meaning.{drawn-means}
 use Rattle.sheet.specs.Sheets.{rowBytes, packedByte, packed, foreground, isSideOut, sheetRefusals}
 use Rattle.sheet.proofs.PixelLaws.{packed-means}
 use Rattle.run.specs.Starting.{canvasWrong, canvasSize}
-use Rattle.run.specs.StarredRuns.{sheetOf, bytesOf, levelsOf, pictureOf}
+use Rattle.run.specs.StarredRuns.{sheetOf, bytesOf, levelsOf, pictureOf, RunsGive, AfterOneRow}
+use Rattle.run.proofs.StarredRuns.{starred-runs, after-one-row}
 use Rattle.filters.specs.Filters.{Lent, Cleared, IsSheet, AreLevels, openRefusals, openingRefusals, closingRefusals}
-use Rattle.filters.specs.StarredFilters.{Gives, Given, FiltersGive}
-use Rattle.filters.proofs.Uniqueness.{packed-sheet, sheet-one, levels-one}
+use Rattle.filters.specs.StarredFilters.{left, Gives, Given, FiltersGive}
+use Rattle.filters.proofs.Uniqueness.{packed-sheet, sheet-one, levels-one, lent-one}
 
--- where what is right is one thing, and no refusal applies to buffers that fit
+-- where no refusal applies to buffers that fit, and the answer is right, the contract allows it; and what is right is one thing
 gives : (refusals : Lent → List Refusal) (number : ℕ → ℕ → ℕ → ℕ) → ((lent : Lent) → first (refusals lent) ≡ number (length (lent .first)) (length (lent .second)) (length (lent .out)))
     → (Right : List ℕ → Type 0) → ((x y : List ℕ) → Right x → Right y → x ≡ y)
     → (work : ℕ) (answer : List ℕ) → number work work (length answer) ≡ 0 → Right answer
     → Gives (λ lent. Answers (refusals lent) lent (λ after. Cleared lent after × Right (after .out))) work answer
-gives refusals number by-lengths Right one work answer none right lent after m fits p =
-    let z : m ≡ 0 = p .refusal ∙ by-lengths lent ∙ (rw (fits .first, fits .second, fits .out) none) in
-    (z, one (after .out) answer (p .accepted z .1) right)
+gives refusals number by-lengths Right one work answer none right lent fits =
+    let z : first (refusals lent) ≡ 0 = by-lengths lent ∙ (rw (fits .first, fits .second, fits .out) none) in
+    let clear : Cleared lent (left work answer) = record { first = ap (λ n. replicate n 0) (sym (fits .first)); second = ap (λ n. replicate n 0) (sym (fits .second)) } in
+    let allowed : Answers (refusals lent) lent (λ after. Cleared lent after × Right (after .out)) 0 (left work answer) = accepts (left work answer) z (clear, right) in
+    (allowed, λ m after p. answers-unique (lent-one Right one lent) m 0 after (left work answer) p allowed)
 
 -- what is computed of a case: the number that its call answers, by the lengths of the buffers lent, and that its sheet is drawn in 0 and 1
 module _ (c : Case) where
@@ -136,7 +140,7 @@ module _ (c : Case) (binary : Binary c) where
   given (dilationLevels R) t h = tt
   given (erodedBy n) t h = tt
 
--- THE CLAIM
+-- the whole table
 filters-give : (rest : List Case) → AllTaken rest → AllHold rest → FiltersGive rest
 unfolding AllTaken
 filters-give [] t h = tt
@@ -144,3 +148,7 @@ filters-give (c ∷ rest) t h = (given c (t .0 .0) (c .question) (t .0 .1) (h .0
 
 pub starred-filters : FiltersGive cases
 starred-filters = filters-give cases all-taken starred
+
+-- EVERY STARRED CASE, of the definitions, of the runs and of the contracts
+pub every-starred-case : AllHold cases × RunsGive cases × AfterOneRow × FiltersGive cases
+every-starred-case = (starred, starred-runs, after-one-row, starred-filters)

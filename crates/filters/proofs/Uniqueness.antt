@@ -74,7 +74,7 @@ module _ (width height : ℕ) where
       ∙ sym (raster-is width height (λ i j. getD y (i * width + j) 0) 0 y (q .size) (λ i j a b. refl))
 
 -- what stands after an accepted call is one thing, where its output is
-lent-one : (Right : List ℕ → Type 0) → ((x y : List ℕ) → Right x → Right y → x ≡ y) → (lent : Lent) (x y : Lent) → Cleared lent x × Right (x .out) → Cleared lent y × Right (y .out) → x ≡ y
+pub lent-one : (Right : List ℕ → Type 0) → ((x y : List ℕ) → Right x → Right y → x ≡ y) → (lent : Lent) (x y : Lent) → Cleared lent x × Right (x .out) → Cleared lent y × Right (y .out) → x ≡ y
 lent-one Right one lent x y p q =
     let a : x .first ≡ y .first = p .0 .first ∙ sym (q .0 .first) in
     let b : x .second ≡ y .second = p .0 .second ∙ sym (q .0 .second) in

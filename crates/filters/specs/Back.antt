@@ -53,7 +53,7 @@ unfoldable pub falling : Record → List ℕ → ℕ → List ℕ → List ℕ
 falling r levels zero out = out
 falling r levels (suc n) out = falling r levels n (stored r (wayBack r levels n) n out)
 
--- m is the highest of the first k levels
+-- m bounds the first k levels, and is at most every bound of all of them; where k is their count it is the highest
 pub record Highest (levels : List ℕ) (k m : ℕ) : Type 0 where
   pub all : (j : ℕ) → j < k → getD levels j 0 ≤ m
   pub least : (bound : ℕ) → ((j : ℕ) → j < length levels → getD levels j 0 ≤ bound) → m ≤ bound
@@ -64,7 +64,7 @@ pub record Risen (r : Record) (first before after : List ℕ) : Type 0 where
   pub highest : Highest first (length first) most
   pub is : after ≡ rising r first most (replicate (length before) 0)
 
--- a finished run, its levels in the first work buffer, and as large a second one
+-- a record that a start could give, and two work buffers of its area's size
 pub record Ready (r : Record) (first second : List ℕ) : Type 0 where
   pub taken : foreign r ≡ false
   pub first-size : length first ≡ areaHeight r * areaWidth r
@@ -74,13 +74,14 @@ pub record Ready (r : Record) (first second : List ℕ) : Type 0 where
 abbrev pub chosen : ℕ → ℕ → ℕ → ℕ → ℕ → ℕ
 chosen low high on off level = cond (eqb (heldBetween low high level) 1) on off
 
--- what all four calls are refused for, by the lengths of the buffers lent: `bad` is their own 8, and the output has `entries` to a row
+-- 9 to 11, by the lengths of the buffers lent; the output has `entries` to a row
 abbrev pub roomRefusals : ℕ → ℕ → ℕ → ℕ → ℕ → ℕ → ℕ → ℕ → List Refusal
 roomRefusals width height cap side first second out entries =
     (9, canvasWrong width height cap side) ∷
     (10, not (eqb first (canvasSize width height cap side)) || not (eqb second (canvasSize width height cap side))) ∷
     (11, not (eqb out (height * entries))) ∷ []
 
+-- 2 to 11, of all four calls; `bad` says whether the call's own 8 applies
 abbrev pub filterRefusals : ℕ → ℕ → List ℕ → ℕ → List ℕ → Bool → ℕ → ℕ → ℕ → ℕ → ℕ → List Refusal
 filterRefusals width height sheet side bytes bad cap first second out entries =
     sheetRefusals width height sheet ++ (elementRefusals side bytes ++ (8, bad) ∷ roomRefusals width height cap side first second out entries)

@@ -1,8 +1,8 @@
--- Document 01's starred cases once more, through the contracts of opening and closing: the one outcome that each of them allows is the table's.
+-- Document 01's starred cases once more, through the contracts of opening and closing: with buffers that fit, the one outcome that a contract allows is 0 with the table's answer.
 use Prim.Native.Nat.{ℕ, _*_}
 use mathlib.Core.Path.{_≡_}
 use mathlib.Core.List.{List, [], _∷_}
-use lib.ListN.{length}
+use lib.ListN.{length, replicate}
 use Rattle.grid.specs.Starred.{Question, erosionLevels, openingLevels, dilationLevels, closingLevels, erodedBy, openedBy, Case}
 use Rattle.run.specs.Starting.{canvasSize}
 use Rattle.run.specs.StarredRuns.{sheetOf, bytesOf, levelsOf, pictureOf}
@@ -14,9 +14,14 @@ pub record Fits (work size : ℕ) (lent : Lent) : Type 0 where
   pub second : length (lent .second) ≡ work
   pub out : length (lent .out) ≡ size
 
--- a call that keeps the contract, lent such buffers, answers 0 and gives `answer`
+-- what an accepted call leaves in them
+abbrev pub left : ℕ → List ℕ → Lent
+left work answer = record { first = replicate work 0; second = replicate work 0; out = answer }
+
+-- the contract allows one outcome with such buffers: 0, with `answer`
 abbrev pub Gives : (Lent → ℕ → Lent → Type 0) → ℕ → List ℕ → Type 0
-Gives Contract work answer = (lent after : Lent) (number : ℕ) → Fits work (length answer) lent → Contract lent number after → (number ≡ 0) × (after .out ≡ answer)
+Gives Contract work answer =
+    (lent : Lent) → Fits work (length answer) lent → Contract lent 0 (left work answer) × ((number : ℕ) (after : Lent) → Contract lent number after → (number ≡ 0) × (after ≡ left work answer))
 
 -- so for the opening and closing questions of the table; the others are runs' (StarredRuns of run)
 abbrev pub Given : Question → Case → Type 0

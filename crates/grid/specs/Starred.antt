@@ -103,6 +103,10 @@ abbrev pub case : ℕ → ℕ → Drawing → Drawing → Question → Drawing �
 case width height sheet shape question expected =
     record { width = width; height = height; sheet = sheet; shape = shape; question = question; expected = expected }
 
+-- case 2, of which document 01 also says what stands after one row
+abbrev pub fullRow : Case
+fullRow = case 5 1 (oneRow (1 ∷ 1 ∷ 1 ∷ 1 ∷ 1 ∷ [])) pair erosionLevels (oneRow (5 ∷ 4 ∷ 3 ∷ 2 ∷ 1 ∷ []))
+
 abbrev pub table : List Case
 table =
     -- 1
@@ -116,7 +120,7 @@ table =
     (0 ∷ 0 ∷ 0 ∷ []) ∷ []) ∷
     case 3 3 full cross (erodedBy 2) empty ∷
     -- 2 and 3
-    case 5 1 (oneRow (1 ∷ 1 ∷ 1 ∷ 1 ∷ 1 ∷ [])) pair erosionLevels (oneRow (5 ∷ 4 ∷ 3 ∷ 2 ∷ 1 ∷ [])) ∷
+    fullRow ∷
     case 5 1 (oneRow (1 ∷ 1 ∷ 1 ∷ 1 ∷ 1 ∷ [])) pairReflected erosionLevels (oneRow (1 ∷ 2 ∷ 3 ∷ 4 ∷ 5 ∷ [])) ∷
     -- 4
     case 5 1 (oneRow (0 ∷ 0 ∷ 1 ∷ 0 ∷ 0 ∷ [])) pair (dilationLevels 2) (oneRow (0 ∷ 0 ∷ 1 ∷ 2 ∷ 3 ∷ [])) ∷

@@ -1,5 +1,5 @@
 -- From the library's answers to the boundary's: the boundary's own refusals stand among the library's, so where they do not apply
--- the number is the library's, and where one does it is the lowest of both. The values beside the number go to the answer slices.
+-- the number is the library's, and where one does it takes its place among them. The values beside the number go to the answer slices.
 use Prim.Native.Nat.{ℕ, _≤_}
 use native.Mathlib.Decide.{ℕ-discrete}
 use native.Mathlib.Omega.{arith}
@@ -93,11 +93,15 @@ module _ (L : List Refusal) (t : T (numbered L)) (short : Bool) where
       go true = refl
       go false = refl
 
-  pub room-none : first L ≡ 0 → 11 ≡ first (L ++ (11, short) ∷ (11, true) ∷ [])
+  room-none : first L ≡ 0 → 11 ≡ first (L ++ (11, short) ∷ (11, true) ∷ [])
   room-none z = sym (first-accepted L ((11, short) ∷ (11, true) ∷ []) t z ∙ either-eleven)
 
-  pub room-refused : (n : ℕ) → n ≢ 0 → n ≡ first L → n ≡ first (L ++ (11, short) ∷ (11, true) ∷ [])
-  room-refused n z e = e ∙ sym (first-refused L ((11, short) ∷ (11, true) ∷ []) (λ q. z (e ∙ q)))
+  pub room-same : first (L ++ (11, short) ∷ (11, true) ∷ []) ≡ first (L ++ (11, true) ∷ [])
+  room-same = go (ℕ-discrete (first L) 0)
+    where
+      go : Dec (first L ≡ 0) → first (L ++ (11, short) ∷ (11, true) ∷ []) ≡ first (L ++ (11, true) ∷ [])
+      go (yes z) = sym (room-none z) ∙ sym (first-accepted L ((11, true) ∷ []) t z)
+      go (no n) = first-refused L ((11, short) ∷ (11, true) ∷ []) n ∙ sym (first-refused L ((11, true) ∷ []) n)
 
   -- judged with another room
   module _ (other : Bool) where

@@ -18,19 +18,15 @@ use Rattle.pbm.specs.Header.{Header, broken, whole, beginsP4, header}
 use Rattle.pbm.specs.Pbm.{pbmText, isBroken, frameOf, rasterOf, rasterRefusals, writeRefusals, ReadsPbm, WritesPbm}
 use Rattle.pgm.specs.WritePgm.{maximum, anyAbove, picture, pgmRefusals, WritesPgm}
 use Rattle.harness.specs.Boundary.{recordOf, holdsNoRecord, answerRefusal, atLatest}
-use Rattle.harness.specs.Files.{pictureRefusals, framed, ReadsSheet, WritesSheet, WritesPicture}
-use Rattle.harness.proofs.AnswerLaws.{latest-refuses, carried-refusal, carried-answer, answer-fits, room-none, room-refused, room-zero, room-some, one-stored, two-stored}
+use Rattle.harness.specs.Files.{pictureRefusals, framed, writesRefusals, ReadsSheet, WritesSheet, WritesPicture}
+use Rattle.harness.proofs.AnswerLaws.{latest-refuses, carried-refusal, carried-answer, answer-fits, room-same, room-zero, room-some, one-stored, two-stored}
 
 -- WRITING PBM
 module _ (width height : ℕ) (sheet out answer : List ℕ) where
-  module _ (a : length answer ≢ 1) where
-    pub write-other-refuses : (n : ℕ) → n ≢ 0 → n ≡ first (sheetRefusals width height sheet) → WritesSheet width height sheet out answer n (out, answer)
-    write-other-refuses n z e =
-        refuses n z (rw (ne-eqb (length answer) 1 a) (room-refused (sheetRefusals width height sheet) tt (ltb (length out) (length (pbmText width height sheet))) n z e))
-
-    pub write-other : first (sheetRefusals width height sheet) ≡ 0 → WritesSheet width height sheet out answer 11 (out, answer)
-    write-other e =
-        refuses 11 (λ q. absurd (omega arith)) (rw (ne-eqb (length answer) 1 a) (room-none (sheetRefusals width height sheet) tt (ltb (length out) (length (pbmText width height sheet))) e))
+  pub write-other : length answer ≢ 1 → {number n : ℕ} → number ≡ atLatest n → n ≡ first (sheetRefusals width height sheet) → WritesSheet width height sheet out answer number (out, answer)
+  write-other a e f =
+      latest-refuses (sheetRefusals width height sheet) [] tt tt tt (writesRefusals width height sheet out answer)
+      (rw (ne-eqb (length answer) 1 a) (room-same (sheetRefusals width height sheet) tt (ltb (length out) (length (pbmText width height sheet))))) e f
 
   module _ (a : length answer ≡ 1) (n size : ℕ) (after : List ℕ) (p : WritesPbm width height sheet out n size after) where
     pub write-refuses : n ≢ 0 → WritesSheet width height sheet out answer n (after, answer)

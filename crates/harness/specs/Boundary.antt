@@ -33,6 +33,6 @@ abbrev pub atEleven : Refusal → List Refusal → List Refusal
 atEleven own [] = own ∷ []
 atEleven own (r ∷ rest) = cond (ltb 11 (r .0)) (own ∷ r ∷ rest) (r ∷ atEleven own rest)
 
--- the number then, of a call whose answer slice is of another length: 11, unless a lower one applies too
+-- the number of a call whose answer slice is of another length and whose refusals rise (all but reading PBM): 11, unless a lower one applies too
 abbrev pub atLatest : ℕ → ℕ
 atLatest number = cond (eqb number 0 || ltb 11 number) 11 number

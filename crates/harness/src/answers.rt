@@ -1,4 +1,4 @@
-// The number of a call whose answer slice is of another length.
+// The number of a call whose answer slice is of another length; its refusals rise (all but reading PBM).
 ghost use mathlib.Core.Path.{_≡_};
 ghost use Rattle.harness.specs.Boundary.{atLatest};
 

@@ -9,7 +9,7 @@ pub extern "C" fn wt_read_pbm(file: &[u8], out: &mut [u8], frame: &mut [u64]) ->
     ensures { λ r. ⌜ ReadsSheet (now (file .entry)) (now (out .entry)) (now (frame .entry)) r (now (out .exit), now (frame .exit)) ⌝ }
 {
     if frame.len() != 2 {
-        // The file is judged over a room of our own; whatever is right with it, 11 is left.
+        // The file is judged with a room of our own: where nothing else is wrong, 11 is given, whatever the room.
         let mut room = [0u8; 1];
         let judged = pbm::read_pbm(file, &mut room);
         let refusal = judged.refusal;
@@ -42,10 +42,7 @@ pub extern "C" fn wt_write_pbm(
     let rows = height as usize;
     if answer.len() != 1 {
         let refusal = sheet::sheet_refusal(columns, rows, sheet);
-        if refusal != 0 {
-            return refusal;
-        }
-        return 11;
+        return answers::at_latest(refusal);
     }
     let written = pbm::write_pbm(columns, rows, sheet, out);
     let refusal = written.refusal;

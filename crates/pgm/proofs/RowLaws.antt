@@ -1,4 +1,4 @@
--- What the loops that write keep, each with its start, its turn and its end: the text so far stands in the buffer, and with what is left it makes the whole.
+-- How a frame row is written: the loop over its rest keeps the text so far in the buffer, and with what is left it makes the whole.
 use Prim.Native.Nat.{ℕ, _+_, _-_, _≤_, _<_}
 use native.Mathlib.Numerals.{add-one}
 use native.Mathlib.Omega.{arith}

@@ -48,6 +48,7 @@ fn column_after(column: usize, size: usize) -> usize
 }
 
 // Writes a level that follows `column` characters of a line: its digits, and before them what parts it from the number before.
+// This and the functions below that write give the place after what they wrote.
 fn write_parted(level: usize, column: usize, out: &mut [u8], at: usize) -> usize
     requires { ⌜ (column ≤ at) × (at + 1 + length (digits level) ≤ length (now out)) ⌝ }
     ensures { λ r. ⌜ Wrote (parting column (length (digits level)) ∷ digits level) at (now (out .entry)) (now (out .exit)) r ⌝ }

@@ -1,5 +1,5 @@
 -- The answers of the two starts, and that no second outcome meets their contracts.
--- Both kinds judge the sheet and the element first, and after that a list of their own; what is accepted was judged false, one by one.
+-- Both kinds judge the sheet and the element first, and after that a list of their own; where a start is accepted, each of its refusals was found not to apply.
 use Prim.Native.Nat.{ℕ, _*_, _≤_, _<_}
 use native.Mathlib.Omega.{arith}
 use mathlib.Core.Path.{_≡_, refl, sym, ap₂, _∙_}

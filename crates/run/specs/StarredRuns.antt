@@ -3,15 +3,17 @@ use Prim.Native.Nat.{ℕ}
 use mathlib.Core.Path.{_≡_}
 use mathlib.Core.List.{List, [], _∷_}
 use lib.ListN.{replicate}
+use Rattle.basics.specs.Refusals.{Refusal, first}
 use Rattle.basics.specs.Tables.{raster}
-use Rattle.grid.specs.Starred.{drawn, Question, erosionLevels, openingLevels, dilationLevels, closingLevels, erodedBy, openedBy, Case, pair, oneRow, case}
+use Rattle.grid.specs.Starred.{drawn, Question, erosionLevels, openingLevels, dilationLevels, closingLevels, erodedBy, openedBy, Case, fullRow}
 use Rattle.sheet.specs.Sheets.{packed}
 use Rattle.row.specs.RowRule.{none}
 use Rattle.scan.specs.Scan.{scanRows}
 use Rattle.run.specs.declared.Record.{Record}
-use Rattle.run.specs.Records.{areaOf, margin}
-use Rattle.run.specs.Starting.{startRecord, startLevels}
-use Rattle.run.specs.Pictures.{collected, thresholded}
+use Rattle.run.specs.Records.{areaOf, margin, due}
+use Rattle.run.specs.Starting.{startRecord, startLevels, erosionRefusals, dilationRefusals}
+use Rattle.run.specs.Continuing.{withRows}
+use Rattle.run.specs.Pictures.{collected, collectRefusals, thresholded, thresholdRefusals}
 use Rattle.run.specs.Demand2.{finished}
 
 -- a case's sheet, element and answer, as calls take and give them
@@ -37,11 +39,33 @@ dilationOf c R = startRecord 2 (c .width) (c .height) R 3 (bytesOf c)
 abbrev pub begun : Case → Record → ℕ → ℕ → List ℕ
 begun c r on off = startLevels (c .width) (c .height) (margin r) (sheetOf c) on off
 
--- the finished run gives the table's answer; openings and closings are no runs (StarredFilters of filters)
+-- the run once all its rows are done, and its levels then
+abbrev pub whole : Record → Record
+whole r = withRows r (due r)
+
+abbrev pub erodedLevels : Case → List ℕ
+erodedLevels c = finished (erosionOf c) (begun c (erosionOf c) none 0)
+
+abbrev pub dilatedLevels : Case → ℕ → List ℕ
+dilatedLevels c R = finished (dilationOf c R) (begun c (dilationOf c R) 1 none)
+
+-- neither the start nor the picture is refused, and the picture is the answer
+pub record Shows (start picture : List Refusal) (given answer : List ℕ) : Type 0 where
+  pub started : first start ≡ 0
+  pub released : first picture ≡ 0
+  pub same : given ≡ answer
+
+-- so for the erosion and dilation questions of the table; the others are no runs' (StarredFilters of filters)
 abbrev pub Given : Question → Case → Type 0
-Given erosionLevels c = collected (erosionOf c) (finished (erosionOf c) (begun c (erosionOf c) none 0)) ≡ levelsOf c
-Given (dilationLevels R) c = collected (dilationOf c R) (finished (dilationOf c R) (begun c (dilationOf c R) 1 none)) ≡ levelsOf c
-Given (erodedBy n) c = thresholded (erosionOf c) (finished (erosionOf c) (begun c (erosionOf c) none 0)) n ≡ pictureOf c
+Given erosionLevels c =
+    Shows (erosionRefusals (c .width) (c .height) (sheetOf c) 3 (bytesOf c) (erodedLevels c)) (collectRefusals (whole (erosionOf c)) (erodedLevels c) (levelsOf c))
+    (collected (whole (erosionOf c)) (erodedLevels c)) (levelsOf c)
+Given (dilationLevels R) c =
+    Shows (dilationRefusals (c .width) (c .height) (sheetOf c) 3 (bytesOf c) R (dilatedLevels c R)) (collectRefusals (whole (dilationOf c R)) (dilatedLevels c R) (levelsOf c))
+    (collected (whole (dilationOf c R)) (dilatedLevels c R)) (levelsOf c)
+Given (erodedBy n) c =
+    Shows (erosionRefusals (c .width) (c .height) (sheetOf c) 3 (bytesOf c) (erodedLevels c)) (thresholdRefusals (whole (erosionOf c)) (erodedLevels c) n (pictureOf c))
+    (thresholded (whole (erosionOf c)) (erodedLevels c) n) (pictureOf c)
 Given openingLevels c = Unit {0}
 Given (closingLevels R) c = Unit {0}
 Given (openedBy n) c = Unit {0}
@@ -51,8 +75,5 @@ RunsGive [] = Unit {0}
 RunsGive (c ∷ cases) = Given (c .question) c × RunsGive cases
 
 -- case 2 after one row: all levels are 65,535
-abbrev pub second : Case
-second = case 5 1 (oneRow (1 ∷ 1 ∷ 1 ∷ 1 ∷ 1 ∷ [])) pair erosionLevels (oneRow (5 ∷ 4 ∷ 3 ∷ 2 ∷ 1 ∷ []))
-
 abbrev pub AfterOneRow : Type 0
-AfterOneRow = scanRows (areaOf (erosionOf second)) 0 1 (begun second (erosionOf second) none 0) ≡ replicate 5 none
+AfterOneRow = scanRows (areaOf (erosionOf fullRow)) 0 1 (begun fullRow (erosionOf fullRow) none 0) ≡ replicate 5 none

@@ -28,31 +28,34 @@ unfoldable pub startLevels : ℕ → ℕ → ℕ → List ℕ → ℕ → ℕ �
 startLevels width height margin sheet on off =
     raster (canvasSide width margin) (canvasSide height margin) (λ row col. cond (inked width height margin sheet row col) on off)
 
--- an erosion starts with 65,535 on A and 0 elsewhere
+-- starting an erosion: 2 3 4 5 6 7 10
 abbrev pub erosionRefusals : ℕ → ℕ → List ℕ → ℕ → List ℕ → List ℕ → List Refusal
 erosionRefusals width height sheet side bytes levels =
     sheetRefusals width height sheet ++ (elementRefusals side bytes ++ (10, not (eqb (length levels) (height * width))) ∷ [])
 
+-- 65,535 on A and 0 elsewhere
 abbrev pub StartsErosion : ℕ → ℕ → List ℕ → ℕ → List ℕ → List ℕ → ℕ → Record × List ℕ → Type 0
 StartsErosion width height sheet side bytes levels =
     Answers (erosionRefusals width height sheet side bytes levels) (noRecord, levels)
     (λ after. after ≡ (startRecord 1 width height 0 side bytes, startLevels width height 0 sheet none 0))
 
--- a dilation starts with 1 on A and 65,535 elsewhere on the canvas, whose sides are at most 4,096
+-- the canvas of a cap: a side above 4,096, and its size
 abbrev pub canvasWrong : ℕ → ℕ → ℕ → ℕ → Bool
 canvasWrong width height cap side = ltb 4096 (canvasSide width (marginOf cap side)) || ltb 4096 (canvasSide height (marginOf cap side))
 
 abbrev pub canvasSize : ℕ → ℕ → ℕ → ℕ → ℕ
 canvasSize width height cap side = canvasSide height (marginOf cap side) * canvasSide width (marginOf cap side)
 
--- 9 and 10, of so many levels
+-- 9 and 10 of a canvas with so many levels
 abbrev pub canvasRefusals : ℕ → ℕ → ℕ → ℕ → ℕ → List Refusal
 canvasRefusals width height cap side count = (9, canvasWrong width height cap side) ∷ (10, not (eqb count (canvasSize width height cap side))) ∷ []
 
+-- starting a dilation: 2 3 4 5 6 7 8 9 10
 abbrev pub dilationRefusals : ℕ → ℕ → List ℕ → ℕ → List ℕ → ℕ → List ℕ → List Refusal
 dilationRefusals width height sheet side bytes cap levels =
     sheetRefusals width height sheet ++ (elementRefusals side bytes ++ (8, ltb 2047 cap) ∷ canvasRefusals width height cap side (length levels))
 
+-- 1 on A and 65,535 elsewhere on the canvas
 abbrev pub StartsDilation : ℕ → ℕ → List ℕ → ℕ → List ℕ → ℕ → List ℕ → ℕ → Record × List ℕ → Type 0
 StartsDilation width height sheet side bytes cap levels =
     Answers (dilationRefusals width height sheet side bytes cap levels) (noRecord, levels)

@@ -1,4 +1,4 @@
--- Texts in lent buffers: what stands where, and what was there before.
+-- Texts in lent buffers: a text stands at a place, and all else is as it was.
 use Prim.Native.Nat.{ℕ, _+_}
 use mathlib.Core.Path.{_≡_}
 use mathlib.Core.List.{List, _++_}

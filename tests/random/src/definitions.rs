@@ -50,6 +50,7 @@ impl Set {
 
     /// The set of these points, each counted once.
     pub fn of(points: &[Point]) -> Set {
+        // 0 and -1 give no points an empty box.
         let least = |part: fn(&Point) -> i64| points.iter().map(part).min().unwrap_or(0);
         let most = |part: fn(&Point) -> i64| points.iter().map(part).max().unwrap_or(-1);
         let (left, top) = (least(|p| p.column), least(|p| p.row));

@@ -1,7 +1,7 @@
 //! `perform`, which makes one call of the library's C functions. The only module with `unsafe`.
 //!
-//! They are called as the header declares them and not through the crate `walugtirim`: the tests judge the archive and
-//! not the crate. Slices that the library only reads are lent with guard zones too, and compared afterwards.
+//! They are called as `include/walugtirim.rs` declares them and not through the crate `walugtirim`: the tests judge the
+//! archive and not the crate. Slices that the library only reads are lent with guard zones too, and compared afterwards.
 #![allow(unsafe_code)]
 
 use crate::call::{Call, Name};

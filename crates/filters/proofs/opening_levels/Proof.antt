@@ -1,4 +1,4 @@
--- Each answer follows from the tests that led to it; what is accepted can be started, and finished and filtered it is right.
+-- Each refusal follows from the tests that led to it; an accepted call starts a run, finishes it and takes the way back, and what that leaves is right by the contract.
 use Rattle.filters.proofs.LevelAnswers.{opening-refuses, opening-started, opening-ready, opening-accepts}
 use borrow.Author.Needs.{needs}
 use mathlib.Core.Path.{sym, _∙_}

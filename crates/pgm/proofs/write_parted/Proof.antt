@@ -1,4 +1,4 @@
--- The digits stand first, and then the byte before them.
+-- The digits are written first, and then the byte that parts them from the number before.
 use Rattle.text.proofs.WroteLaws.{wrote-number}
 use Rattle.pgm.proofs.RowLaws.{wrote-parted}
 use borrow.Author.Needs.{needs}

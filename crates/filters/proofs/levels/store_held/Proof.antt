@@ -1,4 +1,4 @@
--- The way back's record is sound, so the bounds of its size hold the levels that it holds.
+-- The way back's record is sound, so a level lies within its two bounds exactly where the record holds it at the size.
 use Rattle.filters.proofs.StoreLaws.{stored-is}
 use Rattle.filters.proofs.BackSteps.{frame-canvas}
 use Rattle.run.proofs.RecordLaws.{sound}

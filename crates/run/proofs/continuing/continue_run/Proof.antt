@@ -1,4 +1,4 @@
--- The refusal is judged first; then the rows that are left of the allowance are worked.
+-- The refusal is judged first; then the allowance or what is due, the lesser, is worked.
 use Rattle.run.proofs.RecordLaws.{not-bad}
 use Rattle.run.proofs.ContinueLaws.{continue-refuses, continue-accepted, continue-accepts}
 use borrow.Author.Needs.{needs}

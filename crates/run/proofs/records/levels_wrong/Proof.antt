@@ -1,4 +1,4 @@
--- The area has few points.
+-- The area's sides are at most 4,096, so their product does not overflow.
 use mathlib.Core.Bool.{not}
 use lib.Dec.{eqb}
 use Rattle.run.proofs.RecordLaws.{area-small}
