@@ -4,11 +4,10 @@ use native.Mathlib.Nat.{pow-succ', one-le-pow}
 use native.Mathlib.Decide.{decLt}
 use native.Mathlib.Omega.{arith}
 use mathlib.Core.Path.{_≡_, refl, sym, ap, _∙_}
-use mathlib.Core.Logic.{_≢_}
 use mathlib.Core.Bool.{Bool, true, false, _&&_, false≢true}
-use mathlib.Core.List.{List, [], _∷_, _++_, append-assoc, append-nil}
+use mathlib.Core.List.{List, [], _∷_, _++_}
 use lib.Dec.{leb}
-use lib.ListN.{length, getD, take, drop, length-append, List·getD-append, List·getD-eq-default}
+use lib.ListN.{length, getD, take, drop, length-append}
 use lib.Seq.{drop-at, length-take-le}
 use borrow.Author.Tests.{lt-ltb, le-ltb, leb-true, le-leb, lt-leb}
 use Rattle.decimal.specs.Numbers.{isDigit, allDigits, valueFrom, value, digitsIn, digits, digitRun, written}
@@ -126,45 +125,6 @@ digits-some n = go (decLt n 10)
     go (yes l) = let e = length-one n l in omega arith
     go (no l) = let e = length-more n (omega arith) in omega arith
 
-pub digits-byte : (n i : ℕ) → getD (digits n) i 0 < 256
-digits-byte n i = go (decLt i (length (digits n)))
-  where
-    go : Dec (i < length (digits n)) → getD (digits n) i 0 < 256
-    go (yes l) = let b = digit-bounds (getD (digits n) i 0) (digits-digit n i l) in omega arith
-    go (no l) = let z = List·getD-eq-default (digits n) 0 (let h : length (digits n) ≤ i = omega arith in h) in omega arith
-
-pub digits-front : (n : ℕ) → getD (digits n) 0 0 ≡ 48 → n ≡ 0
-digits-front = by-tens (λ n. getD (digits n) 0 0 ≡ 48 → n ≡ 0) one more
-  where
-    one : (n : ℕ) → n < 10 → getD (digits n) 0 0 ≡ 48 → n ≡ 0
-    one n l e = let f = rw (digits-one n l) at e in omega arith
-
-    more : (n : ℕ) → 10 ≤ n → (getD (digits (n / 10)) 0 0 ≡ 48 → n / 10 ≡ 0) → getD (digits n) 0 0 ≡ 48 → n ≡ 0
-    more n l ih e =
-        let f = ih (sym (List·getD-append (digits (n / 10)) ((48 + n % 10) ∷ []) 0 0 (digits-some (n / 10))) ∙ (rw (digits-more n l) at e)) in
-        omega arith
-
--- NO OTHER ROW: a row of digits that does not begin with a zero is the digits of what it means
-digits-on : (n : ℕ) (row : List ℕ) → 0 < n → allDigits row ≡ true → digits (valueFrom n row) ≡ digits n ++ row
-unfolding valueFrom allDigits
-digits-on n [] p e = sym (append-nil (digits n))
-digits-on n (byte ∷ row) p e =
-    let f = both (isDigit byte) (allDigits row) e in
-    let b = digit-bounds byte (f .0) in
-    let m = n * 10 + (byte - 48) in
-    let q : m / 10 ≡ n = omega arith in
-    let r : 48 + m % 10 ≡ byte = omega arith in
-    digits-on m row (omega arith) (f .1) ∙ rw (digits-more m (omega arith), q, r, append-assoc)
-
-pub digits-unique : (byte : ℕ) (row : List ℕ) → byte ≢ 48 → allDigits (byte ∷ row) ≡ true → digits (value (byte ∷ row)) ≡ byte ∷ row
-unfolding valueFrom allDigits
-digits-unique byte row z e =
-    let f = both (isDigit byte) (allDigits row) e in
-    let b = digit-bounds byte (f .0) in
-    let n = 0 * 10 + (byte - 48) in
-    let r : 48 + n ≡ byte = omega arith in
-    digits-on n row (omega arith) (f .1) ∙ rw (digits-one n (omega arith), r)
-
 -- a number below 10 ^ k has at most k digits, and one from 10 ^ k on has more
 pub length-below : (k n : ℕ) → 0 < k → n < 10 ^ k → length (digits n) ≤ k
 length-below zero n p l = absurd (omega arith)
@@ -208,10 +168,6 @@ run-append (byte ∷ row) rest e s = let p = both (isDigit byte) (allDigits row)
 
 pub run-digits : (n : ℕ) (rest : List ℕ) → digitRun rest ≡ [] → digitRun (digits n ++ rest) ≡ digits n
 run-digits n rest s = run-append (digits n) rest (digits-all n) s
-
--- so before the end, or before a byte that is no digit, the number is read back
-pub value-run : (n : ℕ) (rest : List ℕ) → digitRun rest ≡ [] → value (digitRun (digits n ++ rest)) ≡ n
-value-run n rest s = ap value (run-digits n rest s) ∙ value-digits n
 
 -- what was written stands in the buffer, and the rest of it is as it was
 module _ (n at : ℕ) (buffer : List ℕ) (fits : at + length (digits n) ≤ length buffer) where

@@ -35,9 +35,6 @@ erode-parts A A′ B B′ f g x h b hb = f (x ⊕ b) (h b (g b hb))
 pub erode-by : (A B B′ : PointSet) → B′ ⊆ B → erode A B ⊆ erode A B′
 erode-by A B B′ g = erode-parts A A B B′ (λ p q. q) g
 
-pub dilate-swap : (A B : PointSet) → dilate A B ⊆ dilate B A
-dilate-swap A B x h = (h .1, h .0, h .3, h .2, h .4 ∙ ⊕-comm (h .0) (h .1))
-
 pub dilate-regroup : (A B C : PointSet) → dilate (dilate A B) C ≈ dilate A (dilate B C)
 dilate-regroup A B C = (
   (λ x h. let g = h .2 in (g .0, g .1 ⊕ h .1, g .2, (g .1, h .1, g .3, h .3, refl), h .4 ∙ ap (λ z. z ⊕ h .1) (g .4) ∙ ⊕-assoc (g .0) (g .1) (h .1))),

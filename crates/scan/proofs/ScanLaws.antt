@@ -9,7 +9,7 @@ use native.Mathlib.Nat.{zero-add, add-zero, suc-add, add-suc}
 use native.Mathlib.Omega.{arith}
 use lib.Dec.{ltb, ltb→lt, nltb→le}
 use lib.ListN.{length, getD, set, length-set}
-use Rattle.row.specs.RowRule.{Area, none, columns, place, pointRule, lowered, rowRule}
+use Rattle.row.specs.RowRule.{Area, columns, place, pointRule, lowered, rowRule}
 use Rattle.scan.specs.Scan.{area, Lent, scanRow, scanRows}
 
 -- a scan of m + n rows is one of m rows and then one of n
@@ -68,10 +68,6 @@ rows-lower area done n levels i = rows-keep (λ l. getD l i 0 ≤ getD levels i 
   where
     point : (upward : Bool) (row : ℕ) (l : List ℕ) (col : ℕ) → (0 < area .height → row < area .height) → col < area .width → getD l i 0 ≤ getD levels i 0 → getD (pointRule area upward row l col) i 0 ≤ getD levels i 0
     point upward row l col a b h = let g = set-lower l (row * area .width + col) (lowered area upward l row col) i (omega arith) in omega arith
-
--- levels that fit 16 bits stay so
-pub rows-fit : (area : Area) (done n : ℕ) (levels : List ℕ) → ((i : ℕ) → getD levels i 0 ≤ none) → (i : ℕ) → getD (scanRows area done n levels) i 0 ≤ none
-rows-fit area done n levels fit i = let h = rows-lower area done n levels i in let g = fit i in omega arith
 
 -- the turns of the code's loop: no row yet, and one row more
 pub rows-none : (area : Area) (done : ℕ) (levels : List ℕ) → scanRows area done 0 levels ≡ levels

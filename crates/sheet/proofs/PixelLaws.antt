@@ -9,16 +9,11 @@ use mathlib.Core.List.{List}
 use lib.Dec.{ltb}
 use lib.ListN.{length}
 use borrow.Author.Tests.{lt-ltb, ltb-true}
-use Rattle.basics.proofs.Arithmetic.{entry-below}
 use Rattle.basics.proofs.TableLaws.{length-raster, getD-raster}
 use Rattle.grid.specs.Sets.{_⊆_, _≈_}
 use Rattle.grid.specs.Figures.{figure}
 use Rattle.grid.proofs.FigureLaws.{figure-same}
 use Rattle.sheet.specs.Sheets.{rowBytes, bit, pixel, foreground, packedByte, packed}
-
--- the byte of a pixel is in the raster
-pub byte-below : (width height row col : ℕ) → row < height → col < width → row * rowBytes width + col / 8 < height * rowBytes width
-byte-below width height row col a b = entry-below (rowBytes width) height row (col / 8) a (omega arith)
 
 -- and few bytes stand before it
 pub place-small : (width row : ℕ) → width ≤ 4096 → row < 4096 → row * rowBytes width ≤ 4096 * 512
