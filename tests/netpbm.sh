@@ -13,27 +13,7 @@ root=$(cd "$(dirname "$0")/.." && pwd)
 library=${WALUGTIRIM_LIB_DIR:-$root/target/staticlib}
 [ -d "$library" ] && library=$(cd "$library" && pwd)
 work=$root/target/netpbm
-passed=0
-failed=0
-
-# check NAME COMMAND..: counts and prints whether the command succeeds.
-check() {
-    check_name=$1
-    shift
-    if "$@"; then
-        passed=$((passed + 1))
-        echo "ok      $check_name"
-    else
-        failed=$((failed + 1))
-        echo "FAILED  $check_name"
-    fi
-}
-
-finish() {
-    echo "netpbm: $passed passed, $failed failed"
-    [ "$failed" -eq 0 ]
-    exit
-}
+. "$root/tests/counted.sh"
 
 # The pixels of a PBM as Netpbm reads them: all digits on one line.
 netpbm_pixels() {
@@ -75,7 +55,7 @@ if ! command -v pnmtoplainpnm >/dev/null 2>&1; then
 fi
 if ! command -v pnmtoplainpnm >/dev/null 2>&1; then
     check "netpbm is installed" false
-    finish
+    finish netpbm
 fi
 
 mkdir -p "$work"
@@ -83,7 +63,7 @@ rm -f "$work"/*
 if ! "${CC:-cc}" -O2 -std=c99 -Wall -Wextra -I "$root/include" "$root/tests/netpbm.c" "$library/libharness.a" \
     -o "$work/driver"; then
     check "the driver is built" false
-    finish
+    finish netpbm
 fi
 cd "$work" || exit 1
 
@@ -175,4 +155,4 @@ for name in text ellipse dither sheet-31-17; do
     done
 done
 
-finish
+finish netpbm

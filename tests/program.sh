@@ -6,33 +6,21 @@ root=$(cd "$(dirname "$0")/.." && pwd)
 erode=$root/target/bin/erode
 work=$(mktemp -d)
 trap 'rm -rf "$work"' EXIT
-passed=0
-failed=0
+. "$root/tests/counted.sh"
 
 # prints NAME EXPECTED: the program on $work/in prints exactly the bytes of EXPECTED
 prints() {
     "$erode" <"$work/in" >"$work/out"
     printf "$2" >"$work/expected"
-    if cmp -s "$work/out" "$work/expected"; then
-        passed=$((passed + 1))
-        echo "ok      $1"
-    else
-        failed=$((failed + 1))
-        echo "FAILED  $1"
-    fi
+    check "$1" cmp -s "$work/out" "$work/expected"
 }
 
 # begins NAME HEADER: what it prints begins with the lines of HEADER
 begins() {
     "$erode" <"$work/in" >"$work/out"
     printf "$2" >"$work/expected"
-    if head -c "$(wc -c <"$work/expected")" "$work/out" | cmp -s - "$work/expected"; then
-        passed=$((passed + 1))
-        echo "ok      $1"
-    else
-        failed=$((failed + 1))
-        echo "FAILED  $1"
-    fi
+    head -c "$(wc -c <"$work/expected")" "$work/out" >"$work/front"
+    check "$1" cmp -s "$work/front" "$work/expected"
 }
 
 zeros() { head -c "$1" /dev/zero; }
@@ -62,5 +50,4 @@ prints "65,536 bytes" 'refused 10\n'
 { printf 'P4\n3 3\n\340\340\340' && zeros 70000; } >"$work/in"
 prints "more than 65,536 bytes" 'refused 10\n'
 
-echo "program: $passed passed, $failed failed"
-[ "$failed" -eq 0 ]
+finish program

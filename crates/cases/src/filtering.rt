@@ -2,7 +2,7 @@
 use super::lines;
 ghost use Prim.Native.Nat.{_≤_};
 
-// The faults of a sheet and an element, each with the call's other arguments sound.
+// The origin and its four neighbours.
 const CROSS: [u8; 9] = [0, 1, 0, 1, 1, 1, 0, 1, 0];
 
 // A call with a size, of an opening or a closing, with `first` and `second` levels and `room` bytes lent.
