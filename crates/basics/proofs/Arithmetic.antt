@@ -1,6 +1,7 @@
 -- Entry k of rows that are w long is at row k / w, column k % w, and the other way.
 use Prim.Native.Nat.{ℕ, zero, suc, _+_, _*_, _/_, _%_, _≤_, _<_}
-use native.Mathlib.Nat.{mod-lt, mod-eq-of-lt, div-eq-of-lt, div-add-mod', div-lt-iff-lt-mul, mul-add-div-right, mul-add-mod-self-right, add-zero, mul-zero, suc-mul, mul-le-mul-right}
+use native.Mathlib.Nat.{mod-lt, mod-eq-of-lt, div-eq-of-lt, div-add-mod', div-lt-iff-lt-mul, mul-add-div-right}
+use native.Mathlib.Nat.{mul-add-mod-self-right, add-zero, mul-zero, suc-mul, mul-le-mul-right}
 use native.Mathlib.Omega.{arith}
 use mathlib.Core.Path.{_≡_, ap, _∙_}
 
@@ -25,4 +26,5 @@ pub entry-of : (w k : ℕ) → k / w * w + k % w ≡ k
 entry-of w k = div-add-mod' k w
 
 pub entry-below : (w h i j : ℕ) → i < h → j < w → i * w + j < h * w
-entry-below w h i j a b = let l : suc i * w ≤ h * w = mul-le-mul-right w a in let e : suc i * w ≡ i * w + w = suc-mul i w in omega arith
+entry-below w h i j a b = let l : suc i * w ≤ h * w = mul-le-mul-right w a in let e : suc i * w ≡ i * w + w = suc-mul i w in
+    omega arith

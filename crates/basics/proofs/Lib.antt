@@ -1,3 +1,4 @@
 pub mod RefusalLaws
 pub mod TableLaws
+pub mod BoundLaws
 pub mod Arithmetic

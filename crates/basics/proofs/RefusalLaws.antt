@@ -1,4 +1,5 @@
--- Lists of refusals, two in a row judged one after the other; and Answers: a refusing and an accepting call, and no second outcome.
+-- Lists of refusals, two in a row judged one after the other; and Answers: a refusing and an accepting call, and no second
+-- outcome.
 use Prim.Native.Nat.{ℕ}
 use mathlib.Core.Path.{_≡_, refl, sym, _∙_}
 use mathlib.Core.Bool.{Bool, true, false, not, cond, _&&_}
@@ -18,7 +19,8 @@ pub first-refused : (xs ys : List Refusal) → first xs ≢ 0 → first (xs ++ y
 first-refused [] ys n = absurd (n refl)
 first-refused (r ∷ xs) ys n = go (r .1) n (first-refused xs ys)
   where
-    go : (b : Bool) → cond b (r .0) (first xs) ≢ 0 → (first xs ≢ 0 → first (xs ++ ys) ≡ first xs) → cond b (r .0) (first (xs ++ ys)) ≡ cond b (r .0) (first xs)
+    go : (b : Bool) → cond b (r .0) (first xs) ≢ 0 → (first xs ≢ 0 → first (xs ++ ys) ≡ first xs)
+        → cond b (r .0) (first (xs ++ ys)) ≡ cond b (r .0) (first xs)
     go true n ih = refl
     go false n ih = ih n
 
@@ -26,7 +28,8 @@ pub first-accepted : (xs ys : List Refusal) → T (numbered xs) → first xs ≡
 first-accepted [] ys t e = refl
 first-accepted (r ∷ xs) ys t e = go (r .1) (eqb (r .0) 0) refl t e (first-accepted xs ys)
   where
-    go : (b z : Bool) → eqb (r .0) 0 ≡ z → T (not z && numbered xs) → cond b (r .0) (first xs) ≡ 0 → (T (numbered xs) → first xs ≡ 0 → first (xs ++ ys) ≡ first ys) → cond b (r .0) (first (xs ++ ys)) ≡ first ys
+    go : (b z : Bool) → eqb (r .0) 0 ≡ z → T (not z && numbered xs) → cond b (r .0) (first xs) ≡ 0
+        → (T (numbered xs) → first xs ≡ 0 → first (xs ++ ys) ≡ first ys) → cond b (r .0) (first (xs ++ ys)) ≡ first ys
     go true true q t e ih = absurd t
     go true false q t e ih = absurd (eqb-false (r .0) 0 q e)
     go false true q t e ih = absurd t
@@ -36,7 +39,8 @@ first-accepted (r ∷ xs) ys t e = go (r .1) (eqb (r .0) 0) refl t e (first-acce
 pub judged-first : {number : ℕ} (xs ys : List Refusal) → number ≢ 0 → number ≡ first xs → number ≡ first (xs ++ ys)
 judged-first xs ys n e = e ∙ sym (first-refused xs ys (λ z. n (e ∙ z)))
 
-pub judged-next : {number : ℕ} (xs ys : List Refusal) → T (numbered xs) → first xs ≡ 0 → number ≡ first ys → number ≡ first (xs ++ ys)
+pub judged-next : {number : ℕ} (xs ys : List Refusal) → T (numbered xs) → first xs ≡ 0 → number ≡ first ys
+    → number ≡ first (xs ++ ys)
 judged-next xs ys t z e = e ∙ sym (first-accepted xs ys t z)
 
 -- where nothing of both applies, nothing of each does
@@ -61,7 +65,8 @@ module _ {A : Type 0} {refusals : List Refusal} {kept : A} {Right : A → Type 0
   accepts after e h = record { refusal = sym e; accepted = λ _. h; refused = λ n. absurd (n refl) }
 
   -- NO SECOND OUTCOME: where what is right is one thing, a call's inputs fix its number and all that stands after it
-  pub answers-unique : ((x y : A) → Right x → Right y → x ≡ y) → (m n : ℕ) (x y : A) → Answers refusals kept Right m x → Answers refusals kept Right n y → (m ≡ n) × (x ≡ y)
+  pub answers-unique : ((x y : A) → Right x → Right y → x ≡ y) → (m n : ℕ) (x y : A) → Answers refusals kept Right m x
+      → Answers refusals kept Right n y → (m ≡ n) × (x ≡ y)
   answers-unique one m n x y p q = (same, go (ℕ-discrete m 0))
     where
       same : m ≡ n
@@ -70,3 +75,9 @@ module _ {A : Type 0} {refusals : List Refusal} {kept : A} {Right : A → Type 0
       go : Dec (m ≡ 0) → x ≡ y
       go (yes z) = one x y (p .accepted z) (q .accepted (sym same ∙ z))
       go (no z) = p .refused z ∙ sym (q .refused (λ e. z (same ∙ e)))
+
+-- the same where what is right is given by a rule
+pub rule-unique : {A : Type 0} {refusals : List Refusal} {kept answer : A} (m n : ℕ) (x y : A)
+    → Answers refusals kept (λ after. after ≡ answer) m x → Answers refusals kept (λ after. after ≡ answer) n y
+    → (m ≡ n) × (x ≡ y)
+rule-unique = answers-unique (λ x y p q. p ∙ sym q)

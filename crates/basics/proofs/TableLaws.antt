@@ -28,22 +28,26 @@ module _ {A : Type 0} (f : ℕ → A) where
 
   -- a list with f's entries is f's table
   pub table-is : (n : ℕ) (d : A) (l : List A) → length l ≡ n → ((k : ℕ) → k < n → getD l k d ≡ f k) → l ≡ table n f
-  table-is n d l s h = ext-getD d l (table n f) (s ∙ sym (length-table n)) (λ k b. h k (omega arith) ∙ sym (getD-table n k d (omega arith)))
+  table-is n d l s h = ext-getD d l (table n f) (s ∙ sym (length-table n))
+      (λ k b. h k (omega arith) ∙ sym (getD-table n k d (omega arith)))
 
   -- a loop that fills a buffer: no turn yet, one turn more, all of it
   pub filled-none : (buffer : List A) → filled 0 f buffer ≡ buffer
   unfolding filled table
   filled-none buffer = refl
 
-  pub filled-more : (i : ℕ) (buffer now : List A) (v : A) → i < length buffer → now ≡ filled i f buffer → v ≡ f i → set now i v ≡ filled (i + 1) f buffer
+  pub filled-more : (i : ℕ) (buffer now : List A) (v : A) → i < length buffer → now ≡ filled i f buffer → v ≡ f i
+      → set now i v ≡ filled (i + 1) f buffer
   unfolding filled table
   filled-more i buffer now v l e q =
       rw (e, q, drop-cons buffer i v l)
-      (set-at (table i f) (getD buffer i v) (drop (suc i) buffer) (f i) i (length-table i) ∙ sym (append-assoc (table i f) (f i ∷ []) (drop (suc i) buffer)) ∙ ap (λ n. table n f ++ drop n buffer) (sym (add-one i)))
+      (set-at (table i f) (getD buffer i v) (drop (suc i) buffer) (f i) i (length-table i)
+      ∙ sym (append-assoc (table i f) (f i ∷ []) (drop (suc i) buffer)) ∙ ap (λ n. table n f ++ drop n buffer) (sym (add-one i)))
 
   pub length-filled : (n : ℕ) (buffer : List A) → n ≤ length buffer → length (filled n f buffer) ≡ length buffer
   unfolding filled
-  length-filled n buffer l = let e = length-append (table n f) (drop n buffer) in let t = length-table n in let d = length-drop n buffer in omega arith
+  length-filled n buffer l = let e = length-append (table n f) (drop n buffer) in let t = length-table n in
+      let d = length-drop n buffer in omega arith
 
 -- a loop that fills a whole array of n entries: the first i are f's
 pub record Filling {A : Type 0} (n : ℕ) (f : ℕ → A) (i : ℕ) (out : List A) : Type 0 where
@@ -60,7 +64,11 @@ module _ {A : Type 0} (n : ℕ) (f : ℕ → A) where
   unfolding table
   filling-turn i out v h l e =
       let s = h .size in
-      record { below = omega arith; size = length-set out i v ∙ s; front = rw (add-one, take-suc-set out i v (let q : i < length out = omega arith in q), h .front, e) }
+      record {
+        below = omega arith;
+        size = length-set out i v ∙ s;
+        front = rw (add-one, take-suc-set out i v (let q : i < length out = omega arith in q), h .front, e);
+      }
 
   pub filling-end : (i : ℕ) (out : List A) → Filling n f i out → n ≤ i → out ≡ table n f
   filling-end i out h l =
@@ -85,7 +93,8 @@ module _ {A : Type 0} (w h : ℕ) (f : ℕ → ℕ → A) where
       getD-table (λ k. f (k / w) (k % w)) (h * w) (i * w + j) d (entry-below w h i j a b) ∙ rw (row-of w i j b, column-of w i j b)
 
   -- a list with these entries, row by row, is the raster
-  pub raster-is : (d : A) (l : List A) → length l ≡ h * w → ((i j : ℕ) → i < h → j < w → getD l (i * w + j) d ≡ f i j) → l ≡ raster w h f
+  pub raster-is : (d : A) (l : List A) → length l ≡ h * w → ((i j : ℕ) → i < h → j < w → getD l (i * w + j) d ≡ f i j)
+      → l ≡ raster w h f
   unfolding raster
   raster-is d l s e =
       table-is (λ k. f (k / w) (k % w)) (h * w) d l s

@@ -1,2 +1,4 @@
 pub mod Refusals
 pub mod Tables
+pub mod Limits
+pub mod Bounds

@@ -1,4 +1,5 @@
-// Document 01's cases 9 and 10, and a case for each refusal of each public call: for each a line with the call, the case and the number answered, 0 where it is accepted.
+// Document 01's cases 9 and 10, and a case for each refusal of each public call: for each a line with the call, the case and the
+// number answered, 0 where it is accepted.
 mod elements;
 mod files;
 mod filtering;

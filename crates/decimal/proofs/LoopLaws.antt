@@ -1,4 +1,5 @@
--- What the loops keep, each with its start, its turn and its end: counting and writing go from the last digit to the first, reading from the first on.
+-- What the loops keep, each with its start, its turn and its end: counting and writing go from the last digit to the first,
+-- reading from the first on.
 use Prim.Native.Nat.{ℕ, suc, _+_, _-_, _*_, _/_, _%_, _≤_, _<_, min}
 use native.Mathlib.Numerals.{add-one}
 use native.Mathlib.Omega.{arith}
@@ -8,7 +9,8 @@ use mathlib.Core.List.{List, [], _∷_, _++_, append-assoc}
 use lib.ListN.{length, getD, take, drop, set, length-set, drop-of-length-le}
 use lib.Seq.{drop-cons, set-split, take-set-le, drop-set-lt, getD-set-same, take-take}
 use Rattle.decimal.specs.Numbers.{isDigit, valueFrom, value, digits, digitRun, written}
-use Rattle.decimal.proofs.NumberLaws.{digits-one, digits-more, length-one, length-more, digits-some, run-end, run-stops, run-more}
+use Rattle.decimal.proofs.NumberLaws.{digits-one, digits-more, length-one, length-more, digits-some, run-end, run-stops}
+use Rattle.decimal.proofs.NumberLaws.{run-more}
 
 -- counting: the digits counted, but for the first of those left, and those left are all
 pub record Counting (n count left : ℕ) : Type 0 where
@@ -41,8 +43,10 @@ drop-set out j v l =
 take-less : (xs ys : List ℕ) (i j : ℕ) → j ≤ i → take i xs ≡ take i ys → take j xs ≡ take j ys
 take-less xs ys i j l e = sym (take-take j i xs l) ∙ ap (take j) e ∙ take-take j i ys l
 
-pub writing-start : (n at : ℕ) (buffer : List ℕ) (i : ℕ) → i ≡ at + length (digits n) → i ≤ length buffer → Writing n at buffer n i buffer
-writing-start n at buffer i e l = record { size = refl; place = e; within = l; front = refl; whole = ap (λ k. digits n ++ drop k buffer) e }
+pub writing-start : (n at : ℕ) (buffer : List ℕ) (i : ℕ) → i ≡ at + length (digits n) → i ≤ length buffer
+    → Writing n at buffer n i buffer
+writing-start n at buffer i e l =
+    record { size = refl; place = e; within = l; front = refl; whole = ap (λ k. digits n ++ drop k buffer) e }
 
 module _ {n at : ℕ} {buffer : List ℕ} {left i : ℕ} {out : List ℕ} (h : Writing n at buffer left i out) where
   -- the stores are inside the buffer
@@ -52,20 +56,23 @@ module _ {n at : ℕ} {buffer : List ℕ} {left i : ℕ} {out : List ℕ} (h : W
   pub writing-first : at < length out
   writing-first = let d = digits-some left in omega arith
 
-  pub writing-turn : 10 ≤ left → (byte : ℕ) → byte ≡ 48 + left % 10 → Writing n at buffer (left / 10) (i - 1) (set out (i - 1) byte)
+  pub writing-turn : 10 ≤ left → (byte : ℕ) → byte ≡ 48 + left % 10
+      → Writing n at buffer (left / 10) (i - 1) (set out (i - 1) byte)
   writing-turn l byte e =
       let r = writing-room l in
       let m = length-more left l in
       let j = i - 1 in
       let q : suc j ≡ i = omega arith in
       let d : drop j (set out j byte) ≡ byte ∷ drop i out = drop-set out j byte (omega arith) ∙ ap (λ k. byte ∷ drop k out) q in
-      let w : digits (left / 10) ++ (byte ∷ []) ≡ digits left = ap (λ b. digits (left / 10) ++ (b ∷ [])) e ∙ sym (digits-more left l) in
+      let w : digits (left / 10) ++ (byte ∷ []) ≡ digits left = ap (λ b. digits (left / 10) ++ (b ∷ [])) e
+      ∙ sym (digits-more left l) in
       record {
         size = length-set out j byte ∙ h .size;
         place = omega arith;
         within = omega arith;
         front = take-set-le j out j byte (omega arith) ∙ take-less out buffer i j (omega arith) (h .front);
-        whole = ap (λ tail. digits (left / 10) ++ tail) d ∙ sym (append-assoc (digits (left / 10)) (byte ∷ []) (drop i out)) ∙ ap (λ row. row ++ drop i out) w ∙ h .whole;
+        whole = ap (λ tail. digits (left / 10) ++ tail) d ∙ sym (append-assoc (digits (left / 10)) (byte ∷ []) (drop i out))
+            ∙ ap (λ row. row ++ drop i out) w ∙ h .whole;
       }
 
   pub writing-end : left < 10 → (byte : ℕ) → byte ≡ 48 + left → set out at byte ≡ written n at buffer
@@ -90,34 +97,42 @@ unfolding valueFrom
 saturates limit sum [] = omega arith
 saturates limit sum (byte ∷ row) =
     let e : min (min sum limit * 10 + (byte - 48)) limit ≡ min (sum * 10 + (byte - 48)) limit = omega arith in
-    sym (saturates limit (min sum limit * 10 + (byte - 48)) row) ∙ ap (λ s. min (valueFrom s row) limit) e ∙ saturates limit (sum * 10 + (byte - 48)) row
+    sym (saturates limit (min sum limit * 10 + (byte - 48)) row) ∙ ap (λ s. min (valueFrom s row) limit) e
+    ∙ saturates limit (sum * 10 + (byte - 48)) row
 
 pub reading-start : (file : List ℕ) (at limit : ℕ) → at ≤ length file → Reading file at limit 0 at
 reading-start file at limit l = record { within = l; small = omega arith; place = refl; worth = refl }
 
 module _ {file : List ℕ} {at limit sum i : ℕ} (h : Reading file at limit sum i) where
-  pub reading-turn : i < length file → isDigit (getD file i 0) ≡ true → (new : ℕ) → new ≡ min (sum * 10 + (getD file i 0 - 48)) limit → Reading file at limit new (i + 1)
+  pub reading-turn : i < length file → isDigit (getD file i 0) ≡ true → (new : ℕ)
+      → new ≡ min (sum * 10 + (getD file i 0 - 48)) limit → Reading file at limit new (i + 1)
   unfolding valueFrom
   reading-turn l e new q =
-      let r : digitRun (drop i file) ≡ getD file i 0 ∷ digitRun (drop (i + 1) file) = ap digitRun (drop-cons file i 0 l) ∙ run-more (getD file i 0) (drop (suc i) file) e ∙ ap (λ k. getD file i 0 ∷ digitRun (drop k file)) (sym (add-one i)) in
+      let r : digitRun (drop i file) ≡ getD file i 0 ∷ digitRun (drop (i + 1) file) = ap digitRun (drop-cons file i 0 l)
+      ∙ run-more (getD file i 0) (drop (suc i) file) e ∙ ap (λ k. getD file i 0 ∷ digitRun (drop k file)) (sym (add-one i)) in
       let s = ap length r in
       record {
         within = omega arith;
         small = omega arith;
         place = omega arith;
-        worth = ap (λ v. min (valueFrom v (digitRun (drop (i + 1) file))) limit) q ∙ saturates limit (sum * 10 + (getD file i 0 - 48)) (digitRun (drop (i + 1) file)) ∙ ap (λ row. min (valueFrom sum row) limit) (sym r) ∙ h .worth;
+        worth = ap (λ v. min (valueFrom v (digitRun (drop (i + 1) file))) limit) q
+            ∙ saturates limit (sum * 10 + (getD file i 0 - 48)) (digitRun (drop (i + 1) file))
+            ∙ ap (λ row. min (valueFrom sum row) limit) (sym r) ∙ h .worth;
       }
 
   -- where the run is over, what was read is the answer
-  over : digitRun (drop i file) ≡ [] → (i ≡ at + length (digitRun (drop at file))) × (sum ≡ min (value (digitRun (drop at file))) limit)
+  over : digitRun (drop i file) ≡ []
+      → (i ≡ at + length (digitRun (drop at file))) × (sum ≡ min (value (digitRun (drop at file))) limit)
   unfolding valueFrom
   over e =
       let z = ap length e in
       let w = sym (ap (λ row. min (valueFrom sum row) limit) e) ∙ h .worth in
       (omega arith, omega arith)
 
-  pub reading-stop : i < length file → isDigit (getD file i 0) ≡ false → (i ≡ at + length (digitRun (drop at file))) × (sum ≡ min (value (digitRun (drop at file))) limit)
+  pub reading-stop : i < length file → isDigit (getD file i 0) ≡ false
+      → (i ≡ at + length (digitRun (drop at file))) × (sum ≡ min (value (digitRun (drop at file))) limit)
   reading-stop l e = over (ap digitRun (drop-cons file i 0 l) ∙ run-stops (getD file i 0) (drop (suc i) file) e)
 
-  pub reading-end : length file ≤ i → (i ≡ at + length (digitRun (drop at file))) × (sum ≡ min (value (digitRun (drop at file))) limit)
+  pub reading-end : length file ≤ i
+      → (i ≡ at + length (digitRun (drop at file))) × (sum ≡ min (value (digitRun (drop at file))) limit)
   reading-end l = over (ap digitRun (drop-of-length-le file l) ∙ run-end)

@@ -20,7 +20,8 @@ steps-same zero (suc b) n l h = rw (lt-ltb n 10 (omega arith)) (let z : n ≡ 0 
 steps-same (suc a) zero n l h = rw (lt-ltb n 10 (omega arith)) (let z : n ≡ 0 = omega arith in rw z)
 steps-same (suc a) (suc b) n l h = go (decLt n 10) (steps-same a b (n / 10))
   where
-    go : Dec (n < 10) → (n / 10 ≤ a → n / 10 ≤ b → digitsIn a (n / 10) ≡ digitsIn b (n / 10)) → digitsIn (suc a) n ≡ digitsIn (suc b) n
+    go : Dec (n < 10) → (n / 10 ≤ a → n / 10 ≤ b → digitsIn a (n / 10) ≡ digitsIn b (n / 10))
+        → digitsIn (suc a) n ≡ digitsIn (suc b) n
     go (yes s) ih = rw (lt-ltb n 10 s)
     go (no s) ih = rw (le-ltb n 10 (omega arith), ih (omega arith) (omega arith))
 
@@ -107,7 +108,8 @@ digits-all = by-tens (λ n. allDigits (digits n) ≡ true) one more
     one n l = rw (digits-one n l, digit-in (48 + n) (omega arith) (omega arith))
 
     more : (n : ℕ) → 10 ≤ n → allDigits (digits (n / 10)) ≡ true → allDigits (digits n) ≡ true
-    more n l ih = rw (digits-more n l) (all-append (digits (n / 10)) ((48 + n % 10) ∷ []) ih (rw (digit-in (48 + n % 10) (omega arith) (omega arith))))
+    more n l ih = rw (digits-more n l)
+        (all-append (digits (n / 10)) ((48 + n % 10) ∷ []) ih (rw (digit-in (48 + n % 10) (omega arith) (omega arith))))
 
 pub digits-digit : (n i : ℕ) → i < length (digits n) → isDigit (getD (digits n) i 0) ≡ true
 digits-digit n i l = all-at (digits n) i (digits-all n) l
@@ -177,7 +179,8 @@ module _ (n at : ℕ) (buffer : List ℕ) (fits : at + length (digits n) ≤ len
   pub written-from : drop at (written n at buffer) ≡ digits n ++ drop (at + length (digits n)) buffer
   written-from = drop-at (take at buffer) (digits n ++ drop (at + length (digits n)) buffer) at before-length
 
-  -- THE ROUND TRIP: where a number was written, and the list ends or goes on with no digit, its digits are read, it is their value, and the place
+  -- THE ROUND TRIP: where a number was written, and the list ends or goes on with no digit, its digits are read, it is their
+  -- value, and the place
   -- after them is the place after the number
   module _ (stops : digitRun (drop (at + length (digits n)) buffer) ≡ []) where
     pub round-trip-run : digitRun (drop at (written n at buffer)) ≡ digits n

@@ -11,10 +11,11 @@ use lib.Dec.{eqb}
 use lib.ListN.{length, getD, drop, drop-of-length-le}
 use lib.Seq.{drop-cons}
 use borrow.Author.Tests.{lt-ltb, le-ltb, le-leb, lt-leb, eq-eqb, ne-eqb, eqb-true}
+use Rattle.basics.specs.Bounds.{anyAbove}
 use Rattle.basics.specs.Refusals.{first}
 use Rattle.basics.proofs.Arithmetic.{entry-below, entry-of, row-below, column-below}
 use Rattle.grid.specs.Figures.{reach}
-use Rattle.element.specs.Elements.{byteAt, isSide, anyAboveOne, countSet, elementRefusals}
+use Rattle.element.specs.Elements.{byteAt, isSide, countSet, elementRefusals}
 use Rattle.element.specs.Cells.{isHeld, centredCell}
 
 -- the bytes from i on
@@ -22,18 +23,6 @@ next : (bytes : List ℕ) (i : ℕ) → i < length bytes → drop i bytes ≡ ge
 next bytes i l = rw (add-one, drop-cons bytes i 0)
 
 module _ (bytes : List ℕ) (i : ℕ) where
-  pub above-found : i < length bytes → 1 < getD bytes i 0 → anyAboveOne (drop i bytes) ≡ true
-  unfolding anyAboveOne
-  above-found l h = rw (next bytes i l, lt-ltb 1 (getD bytes i 0) h)
-
-  pub above-passed : i < length bytes → getD bytes i 0 ≤ 1 → anyAboveOne (drop i bytes) ≡ anyAboveOne (drop (i + 1) bytes)
-  unfolding anyAboveOne
-  above-passed l h = rw (next bytes i l, le-ltb 1 (getD bytes i 0) h)
-
-  pub above-end : length bytes ≤ i → anyAboveOne (drop i bytes) ≡ false
-  unfolding anyAboveOne
-  above-end l = rw (drop-of-length-le bytes l)
-
   pub count-next : i < length bytes → countSet (drop i bytes) ≡ cond (eqb (getD bytes i 0) 0) 0 1 + countSet (drop (i + 1) bytes)
   unfolding countSet
   count-next l = rw (next bytes i l)
@@ -65,7 +54,8 @@ pub sides : (side : ℕ) → isSide side ≡ true → (side ≡ 1) ⊎ ((side �
 unfolding isSide
 sides side e = go (eqb side 1) (eqb side 3) (eqb side 5) (eqb side 7) refl refl refl refl e
   where
-    go : (a b c d : Bool) → eqb side 1 ≡ a → eqb side 3 ≡ b → eqb side 5 ≡ c → eqb side 7 ≡ d → a || b || c || d ≡ true → (side ≡ 1) ⊎ ((side ≡ 3) ⊎ ((side ≡ 5) ⊎ (side ≡ 7)))
+    go : (a b c d : Bool) → eqb side 1 ≡ a → eqb side 3 ≡ b → eqb side 5 ≡ c → eqb side 7 ≡ d → a || b || c || d ≡ true
+        → (side ≡ 1) ⊎ ((side ≡ 3) ⊎ ((side ≡ 5) ⊎ (side ≡ 7)))
     go true b c d p q r s e = inl (eqb-true side 1 p)
     go false true c d p q r s e = inr (inl (eqb-true side 3 q))
     go false false true d p q r s e = inr (inr (inl (eqb-true side 5 r)))
@@ -115,7 +105,8 @@ module _ (side : ℕ) (bytes : List ℕ) (row col : ℕ) where
       go true = refl
       go false = refl
 
-  pub cell-in : isHeld side row ≡ true → isHeld side col ≡ true → centredCell side bytes row col ≡ byteAt side bytes (row - (3 - reach side)) (col - (3 - reach side))
+  pub cell-in : isHeld side row ≡ true → isHeld side col ≡ true
+      → centredCell side bytes row col ≡ byteAt side bytes (row - (3 - reach side)) (col - (3 - reach side))
   unfolding centredCell
   cell-in e f = rw (e, f)
 
@@ -128,22 +119,35 @@ module _ (side : ℕ) (bytes : List ℕ) where
   refuse-length e n = rw (e, ne-eqb (length bytes) (side * side) n)
 
   module _ (e : isSide side ≡ true) (l : length bytes ≡ side * side) where
-    pub refuse-byte : anyAboveOne bytes ≡ true → 5 ≡ first (elementRefusals side bytes)
+    pub refuse-byte : anyAbove 1 bytes ≡ true → 5 ≡ first (elementRefusals side bytes)
     refuse-byte a = rw (e, eq-eqb (length bytes) (side * side) l, a)
 
-    module _ (a : anyAboveOne bytes ≡ false) where
+    module _ (a : anyAbove 1 bytes ≡ false) where
       pub refuse-centre : byteAt side bytes (reach side) (reach side) ≡ 0 → 6 ≡ first (elementRefusals side bytes)
       refuse-centre z = rw (e, eq-eqb (length bytes) (side * side) l, a, eq-eqb (byteAt side bytes (reach side) (reach side)) 0 z)
 
       module _ (z : byteAt side bytes (reach side) (reach side) ≢ 0) where
         pub refuse-alone : countSet bytes ≡ 1 → 7 ≡ first (elementRefusals side bytes)
-        refuse-alone o = rw (e, eq-eqb (length bytes) (side * side) l, a, ne-eqb (byteAt side bytes (reach side) (reach side)) 0 z, eq-eqb (countSet bytes) 1 o)
+        refuse-alone o = rw (
+          e,
+          eq-eqb (length bytes) (side * side) l,
+          a,
+          ne-eqb (byteAt side bytes (reach side) (reach side)) 0 z,
+          eq-eqb (countSet bytes) 1 o,
+        )
 
         pub accept-element : countSet bytes ≢ 1 → 0 ≡ first (elementRefusals side bytes)
-        accept-element o = rw (e, eq-eqb (length bytes) (side * side) l, a, ne-eqb (byteAt side bytes (reach side) (reach side)) 0 z, ne-eqb (countSet bytes) 1 o)
+        accept-element o = rw (
+          e,
+          eq-eqb (length bytes) (side * side) l,
+          a,
+          ne-eqb (byteAt side bytes (reach side) (reach side)) 0 z,
+          ne-eqb (countSet bytes) 1 o,
+        )
 
 -- counted from the last byte, entry k is at the row and the column across the centre
-pub reflected-entry : (side : ℕ) (bytes : List ℕ) (k : ℕ) → k < side * side → getD bytes (side * side - 1 - k) 0 ≡ byteAt side bytes (side - 1 - k / side) (side - 1 - k % side)
+pub reflected-entry : (side : ℕ) (bytes : List ℕ) (k : ℕ) → k < side * side
+    → getD bytes (side * side - 1 - k) 0 ≡ byteAt side bytes (side - 1 - k / side) (side - 1 - k % side)
 reflected-entry side bytes k l = ap (λ n. getD bytes n 0) place
   where
     place : side * side - 1 - k ≡ (side - 1 - k / side) * side + (side - 1 - k % side)
@@ -153,6 +157,7 @@ reflected-entry side bytes k l = ap (λ n. getD bytes n 0) place
         let e = entry-of side k in
         let r = row-below side side k l in
         let c = column-below side side k l in
-        let s : a * side + suc i * side ≡ side * side = sym (add-mul a (suc i) side) ∙ ap (λ n. n * side) (let q : a + suc i ≡ side = omega arith in q) in
+        let s : a * side + suc i * side ≡ side * side = sym (add-mul a (suc i) side)
+        ∙ ap (λ n. n * side) (let q : a + suc i ≡ side = omega arith in q) in
         let m = suc-mul i side in
         omega arith

@@ -9,20 +9,28 @@ use lib.Dec.{eqb}
 use lib.ListN.{length}
 use borrow.Author.Tests.{eq-eqb, ne-eqb}
 use Rattle.basics.specs.Refusals.{first}
-use Rattle.basics.proofs.RefusalLaws.{first-refused, first-accepted, refuses, accepts, answers-unique}
+use Rattle.basics.proofs.RefusalLaws.{first-refused, first-accepted, refuses, accepts, rule-unique}
 use Rattle.element.specs.Elements.{elementRefusals}
 use Rattle.element.specs.Reflect.{reflectedBytes, Reflects}
 
 module _ (side : ℕ) (bytes out : List ℕ) where
-  pub reflect-refuses : (number : ℕ) → number ≢ 0 → number ≡ first (elementRefusals side bytes) → Reflects side bytes out number out
-  reflect-refuses number n e = refuses number n (e ∙ sym (first-refused (elementRefusals side bytes) ((11, not (eqb (length out) (length bytes))) ∷ []) (λ z. n (e ∙ z))))
+  pub reflect-refuses : (number : ℕ) → number ≢ 0 → number ≡ first (elementRefusals side bytes)
+      → Reflects side bytes out number out
+  reflect-refuses number n e =
+      refuses number n (e ∙ sym
+      (first-refused (elementRefusals side bytes) ((11, not (eqb (length out) (length bytes))) ∷ []) (λ z. n (e ∙ z))))
 
   pub reflect-refuses-length : first (elementRefusals side bytes) ≡ 0 → length out ≢ length bytes → Reflects side bytes out 11 out
   reflect-refuses-length e n =
-      refuses 11 (λ z. absurd (omega arith)) (sym (first-accepted (elementRefusals side bytes) ((11, not (eqb (length out) (length bytes))) ∷ []) tt e ∙ rw (ne-eqb (length out) (length bytes) n)))
+      refuses 11 (λ z. absurd (omega arith))
+      (sym (first-accepted (elementRefusals side bytes) ((11, not (eqb (length out) (length bytes))) ∷ []) tt e
+      ∙ rw (ne-eqb (length out) (length bytes) n)))
 
-  pub reflect-accepts : (after : List ℕ) → first (elementRefusals side bytes) ≡ 0 → length out ≡ length bytes → after ≡ reflectedBytes side bytes → Reflects side bytes out 0 after
-  reflect-accepts after e l h = accepts after (first-accepted (elementRefusals side bytes) ((11, not (eqb (length out) (length bytes))) ∷ []) tt e ∙ rw (eq-eqb (length out) (length bytes) l)) h
+  pub reflect-accepts : (after : List ℕ) → first (elementRefusals side bytes) ≡ 0 → length out ≡ length bytes
+      → after ≡ reflectedBytes side bytes → Reflects side bytes out 0 after
+  reflect-accepts after e l h =
+      accepts after (first-accepted (elementRefusals side bytes) ((11, not (eqb (length out) (length bytes))) ∷ []) tt e
+      ∙ rw (eq-eqb (length out) (length bytes) l)) h
 
   pub reflect-unique : (m n : ℕ) (x y : List ℕ) → Reflects side bytes out m x → Reflects side bytes out n y → (m ≡ n) × (x ≡ y)
-  reflect-unique = answers-unique (λ x y p q. p ∙ sym q)
+  reflect-unique = rule-unique

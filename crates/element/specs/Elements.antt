@@ -4,6 +4,7 @@ use mathlib.Core.Bool.{Bool, false, not, cond, _&&_, _||_}
 use mathlib.Core.List.{List, [], _∷_}
 use lib.Dec.{eqb, ltb}
 use lib.ListN.{length, getD}
+use Rattle.basics.specs.Bounds.{anyAbove}
 use Rattle.basics.specs.Refusals.{Refusal}
 use Rattle.grid.specs.Sets.{PointSet}
 use Rattle.grid.specs.Figures.{element, reach}
@@ -19,10 +20,6 @@ elementSet side bytes = element side (byteAt side bytes)
 unfoldable pub isSide : ℕ → Bool
 isSide side = eqb side 1 || eqb side 3 || eqb side 5 || eqb side 7
 
-unfoldable pub anyAboveOne : List ℕ → Bool
-anyAboveOne [] = false
-anyAboveOne (byte ∷ rest) = ltb 1 byte || anyAboveOne rest
-
 unfoldable pub countSet : List ℕ → ℕ
 countSet [] = 0
 countSet (byte ∷ rest) = cond (eqb byte 0) 0 1 + countSet rest
@@ -30,6 +27,6 @@ countSet (byte ∷ rest) = cond (eqb byte 0) 0 1 + countSet rest
 abbrev pub elementRefusals : ℕ → List ℕ → List Refusal
 elementRefusals side bytes =
     (4, not (isSide side && eqb (length bytes) (side * side))) ∷
-    (5, anyAboveOne bytes) ∷
+    (5, anyAbove 1 bytes) ∷
     (6, eqb (byteAt side bytes (reach side) (reach side)) 0) ∷
     (7, eqb (countSet bytes) 1) ∷ []

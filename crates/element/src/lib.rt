@@ -4,9 +4,10 @@ ghost use mathlib.Core.Bool.{true, cond};
 ghost use lib.Dec.{eqb};
 ghost use Prim.Native.Nat.{_+_, _-_, _*_, _<_, _≤_};
 ghost use lib.ListN.{length, getD};
+ghost use Rattle.basics.specs.Bounds.{anyAbove};
 ghost use Rattle.basics.specs.Refusals.{first};
 ghost use Rattle.basics.specs.Tables.{table};
-ghost use Rattle.element.specs.Elements.{isSide, anyAboveOne, countSet, elementRefusals};
+ghost use Rattle.element.specs.Elements.{isSide, countSet, elementRefusals};
 ghost use Rattle.element.specs.Cells.{centred, centredCell, turned, flat, unflat};
 ghost use Rattle.element.specs.Reflect.{reflectedBytes, Reflects};
 
@@ -26,7 +27,7 @@ pub fn is_side(side: usize) -> bool
 }
 
 pub fn any_above_one(bytes: &[u8]) -> bool
-    ensures { λ r. ⌜ r ≡ anyAboveOne (now (bytes .entry)) ⌝ }
+    ensures { λ r. ⌜ r ≡ anyAbove 1 (now (bytes .entry)) ⌝ }
 {
     let mut i = 0;
     while i < bytes.len() {

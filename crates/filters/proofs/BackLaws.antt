@@ -1,4 +1,5 @@
--- The way back, of either kind: its record is sound, its area is the first run's, and its start stands on the set that the first run holds.
+-- The way back, of either kind: its record is sound, its area is the first run's, and its start stands on the set that the first
+-- run holds.
 use Prim.Native.Nat.{ℕ, suc, _+_, _*_, _≤_, _<_}
 use native.Mathlib.Nat.{zero-mul}
 use native.Mathlib.Omega.{arith}
@@ -9,6 +10,7 @@ use mathlib.Core.List.{List}
 use lib.Dec.{leb}
 use lib.ListN.{length, getD}
 use borrow.Author.Tests.{ne-eqb, le-ltb, le-leb, leb-true}
+use Rattle.basics.proofs.BoundLaws.{neither}
 use Rattle.basics.proofs.TableLaws.{length-table, getD-table}
 use Rattle.grid.specs.Points.{Point}
 use Rattle.grid.specs.Sets.{PointSet}
@@ -19,12 +21,15 @@ use Rattle.scan.proofs.LookLaws.{spot, look-inside, place-in}
 use Rattle.run.specs.declared.Record.{Record}
 use Rattle.run.specs.Records.{isErosion, areaWidth, areaHeight, areaOf, elementForeign, capForeign, foreign}
 use Rattle.run.specs.Pictures.{isHeldAt}
-use Rattle.run.proofs.RecordLaws.{Sound, sound, neither}
+use Rattle.run.proofs.RecordLaws.{Sound, sound}
 use Rattle.filters.specs.Back.{back, onOf, offOf, backStart}
 
 -- a level from 1 to n + 1, as a test
 pub range-iff : (n level : ℕ) → ((0 < level) × (level ≤ suc n)) ↔ (leb 1 level && leb level (suc n) ≡ true)
-range-iff n level = ((λ h. rw (le-leb 1 level (h .0), le-leb level (suc n) (h .1))), both (leb 1 level) (leb level (suc n)) refl refl)
+range-iff n level = (
+  (λ h. rw (le-leb 1 level (h .0), le-leb level (suc n) (h .1))),
+  both (leb 1 level) (leb level (suc n)) refl refl,
+)
   where
     both : (a b : Bool) → leb 1 level ≡ a → leb level (suc n) ≡ b → a && b ≡ true → (0 < level) × (level ≤ suc n)
     both true true p q h = (leb-true 1 level p, leb-true level (suc n) q)
@@ -51,9 +56,22 @@ back-taken r e =
     let h = s .high in
     let f = neither (isSideOut (r .width) || isSideOut (r .height) || elementForeign (r .side) (r .cells)) (capForeign r) e in
     let g = neither (isSideOut (r .width) || isSideOut (r .height)) (elementForeign (r .side) (r .cells)) (f .0) in
-    rw (side-ok (areaWidth r) (omega arith) (s .area-wide), side-ok (areaHeight r) (omega arith) (s .area-high), g .1) (cap-taken (isErosion r) s)
+    rw (
+      side-ok (areaWidth r) (omega arith) (s .area-wide),
+      side-ok (areaHeight r) (omega arith) (s .area-high),
+      g .1,
+    ) (cap-taken (isErosion r) s)
   where
-    cap-taken : (t : Bool) → Sound r → capForeign (record { kind = cond t 2 1; width = areaWidth r; height = areaHeight r; cap = 0; side = r .side; rows = 0; cells = r .cells }) ≡ false
+    cap-taken : (t : Bool) → Sound r
+        → capForeign (record {
+          kind = cond t 2 1;
+          width = areaWidth r;
+          height = areaHeight r;
+          cap = 0;
+          side = r .side;
+          rows = 0;
+          cells = r .cells;
+        }) ≡ false
     cap-taken true s =
         let z = zero-mul (reach (r .side)) in
         let a = s .area-wide in
@@ -62,7 +80,8 @@ back-taken r e =
     cap-taken false s = refl
 
 -- the start of the way back, where the first run holds the points of S at a size
-module _ (r : Record) (first : List ℕ) (n : ℕ) (S : PointSet) (size : length first ≡ areaHeight r * areaWidth r) (is : (x : Point) → S x ↔ (isHeldAt r n (look (areaOf r) first x) ≡ true)) where
+module _ (r : Record) (first : List ℕ) (n : ℕ) (S : PointSet) (size : length first ≡ areaHeight r * areaWidth r)
+    (is : (x : Point) → S x ↔ (isHeldAt r n (look (areaOf r) first x) ≡ true)) where
   pub marks-decide : (x : Point) → Dec (S x)
   marks-decide x = go (isHeldAt r n (look (areaOf r) first x)) refl
     where
@@ -72,10 +91,12 @@ module _ (r : Record) (first : List ℕ) (n : ℕ) (S : PointSet) (size : length
 
   pub marks-size : length (backStart r first n) ≡ areaHeight (back r) * areaWidth (back r)
   unfolding backStart
-  marks-size = length-table (λ k. cond (isHeldAt r n (getD first k 0)) (onOf (back r)) (offOf (back r))) (length first) ∙ size ∙ sym (ap₂ (λ h w. h * w) (back-height r) (back-width r))
+  marks-size = length-table (λ k. cond (isHeldAt r n (getD first k 0)) (onOf (back r)) (offOf (back r))) (length first) ∙ size
+      ∙ sym (ap₂ (λ h w. h * w) (back-height r) (back-width r))
 
   module _ (row col : ℕ) (a : row < areaHeight (back r)) (b : col < areaWidth (back r)) where
-    mark : (t : Bool) → isHeldAt r n (look (areaOf r) first (spot row col)) ≡ t → getD (backStart r first n) (row * areaWidth (back r) + col) 0 ≡ cond t (onOf (back r)) (offOf (back r))
+    mark : (t : Bool) → isHeldAt r n (look (areaOf r) first (spot row col)) ≡ t
+        → getD (backStart r first n) (row * areaWidth (back r) + col) 0 ≡ cond t (onOf (back r)) (offOf (back r))
     unfolding backStart
     mark t e =
         let bw = back-width r in
@@ -84,7 +105,8 @@ module _ (r : Record) (first : List ℕ) (n : ℕ) (S : PointSet) (size : length
         let l = place-in (areaWidth r) (areaHeight r) row col (omega arith) (omega arith) in
         ap (λ w. getD (backStart r first n) (row * w + col) 0) bw
         ∙ getD-table f (length first) (row * areaWidth r + col) 0 (omega arith)
-        ∙ ap (λ v. cond (isHeldAt r n v) (onOf (back r)) (offOf (back r))) (sym (look-inside (areaOf r) first row col (omega arith) (omega arith)))
+        ∙ ap (λ v. cond (isHeldAt r n v) (onOf (back r)) (offOf (back r)))
+        (sym (look-inside (areaOf r) first row col (omega arith) (omega arith)))
         ∙ ap (λ u. cond u (onOf (back r)) (offOf (back r))) e
 
     pub marks-on : S (spot row col) → getD (backStart r first n) (row * areaWidth (back r) + col) 0 ≡ onOf (back r)
@@ -93,6 +115,7 @@ module _ (r : Record) (first : List ℕ) (n : ℕ) (S : PointSet) (size : length
     pub marks-off : ¬ S (spot row col) → getD (backStart r first n) (row * areaWidth (back r) + col) 0 ≡ offOf (back r)
     marks-off m = go (isHeldAt r n (look (areaOf r) first (spot row col))) refl
       where
-        go : (t : Bool) → isHeldAt r n (look (areaOf r) first (spot row col)) ≡ t → getD (backStart r first n) (row * areaWidth (back r) + col) 0 ≡ offOf (back r)
+        go : (t : Bool) → isHeldAt r n (look (areaOf r) first (spot row col)) ≡ t
+            → getD (backStart r first n) (row * areaWidth (back r) + col) 0 ≡ offOf (back r)
         go true e = absurd (m (is (spot row col) .1 e))
         go false e = mark false e

@@ -26,11 +26,14 @@ eroded-move A K n c x y e = ((λ h b hb. subst A (moved b) (h b hb)), (λ h b hb
     moved : (b : Point) → (x ⊕ b) ⊕ c ≡ y ⊕ b
     moved b = ⊕-swap x b c ∙ ap (λ p. p ⊕ b) e
 
-module _ {area : Area} {A K : PointSet} (margin n : ℕ) {start : List ℕ} (given : ErosionStart area (onMargin margin (dilated A K n)) K start) where
+module _ {area : Area} {A K : PointSet} (margin n : ℕ) {start : List ℕ}
+    (given : ErosionStart area (onMargin margin (dilated A K n)) K start) where
   -- THE CLOSING THEOREM, read off the list at a point of the frame
   pub closing-at : (row col : ℕ) → row + margin < area .height → col + margin < area .width
       → closed A K n (spot row col) ↔ (n < getD (fullScan area start) ((row + margin) * area .width + (col + margin)) 0)
   closing-at row col a b =
-      let i = erosion-iff (onMargin margin (dilated A K n)) K (spot (row + margin) (col + margin)) (given .has-origin) (erosion-at given (row + margin) (col + margin) a b) n in
-      let m = eroded-move (dilated A K n) K n (neg (spot margin margin)) (spot (row + margin) (col + margin)) (spot row col) (⊕-cancel (spot row col) (spot margin margin)) in
+      let i = erosion-iff (onMargin margin (dilated A K n)) K (spot (row + margin) (col + margin)) (given .has-origin)
+      (erosion-at given (row + margin) (col + margin) a b) n in
+      let m = eroded-move (dilated A K n) K n (neg (spot margin margin)) (spot (row + margin) (col + margin)) (spot row col)
+      (⊕-cancel (spot row col) (spot margin margin)) in
       ((λ h. i .0 (m .1 h)), (λ l. m .0 (i .1 l)))

@@ -1,5 +1,7 @@
--- An opening needs no canvas: after the eroded set is scanned back on the frame itself, the levels 1 to n + 1 stand exactly where opening by n holds.
--- A walk of at most n steps that ends in the eroded set has all its points in A, for the element has the origin; so they lie in the frame, where every point is live.
+-- An opening needs no canvas: after the eroded set is scanned back on the frame itself, the levels 1 to n + 1 stand exactly where
+-- opening by n holds.
+-- A walk of at most n steps that ends in the eroded set has all its points in A, for the element has the origin; so they lie in
+-- the frame, where every point is live.
 use mathlib.Core.Path.{_≡_, sym, subst}
 use mathlib.Core.Logic.{_↔_, inl}
 use mathlib.Core.List.{List}
@@ -30,10 +32,14 @@ cap-held R n level l = cases (decLe level (suc R))
   where
     cases : Dec (level ≤ suc R) → ((0 < cap R level) × (cap R level ≤ suc n)) ↔ ((0 < level) × (level ≤ suc n))
     cases (yes h) = rw (cap-low R level h) ((λ p. p), (λ p. p))
-    cases (no h) = rw (cap-high R level (omega arith)) ((λ p. absurd (let z = p .0 in omega arith)), (λ p. absurd (let z = p .1 in omega arith)))
+    cases (no h) = rw (cap-high R level (omega arith)) (
+      (λ p. absurd (let z = p .0 in omega arith)),
+      (λ p. absurd (let z = p .1 in omega arith)),
+    )
 
 -- so dilating by n holds a point exactly where its scanned level is 1 to n + 1
-pub dilated-held : (A K : PointSet) (x : Point) (R n level : ℕ) → K origin → IsDilationLevel R A K x (cap R level) → n ≤ R → dilated A K n x ↔ ((0 < level) × (level ≤ suc n))
+pub dilated-held : (A K : PointSet) (x : Point) (R n level : ℕ) → K origin → IsDilationLevel R A K x (cap R level) → n ≤ R
+    → dilated A K n x ↔ ((0 < level) × (level ≤ suc n))
 dilated-held A K x R n level o h l =
     let i = dilation-iff A K x o h n l in
     let c = cap-held R n level l in
@@ -48,8 +54,10 @@ pub record OpeningStart (area : Area) (A K : PointSet) (n : ℕ) (start : List �
   pub decide : (x : Point) → Dec (eroded A K n x)
   pub inside : A ⊆ frame (area .width) (area .height)
   pub size : length start ≡ area .height * area .width
-  pub on : (row col : ℕ) → row < area .height → col < area .width → eroded A K n (spot row col) → getD start (row * area .width + col) 0 ≡ 1
-  pub off : (row col : ℕ) → row < area .height → col < area .width → ¬ eroded A K n (spot row col) → getD start (row * area .width + col) 0 ≡ none
+  pub on : (row col : ℕ) → row < area .height → col < area .width → eroded A K n (spot row col)
+      → getD start (row * area .width + col) 0 ≡ 1
+  pub off : (row col : ℕ) → row < area .height → col < area .width → ¬ eroded A K n (spot row col)
+      → getD start (row * area .width + col) 0 ≡ none
 
 module _ {area : Area} {A K : PointSet} {n : ℕ} {start : List ℕ} (given : OpeningStart area A K n start) where
   abbrev final : List ℕ
@@ -79,7 +87,9 @@ module _ {area : Area} {A K : PointSet} {n : ℕ} {start : List ℕ} (given : Op
 
   -- THE OPENING THEOREM, read off the list
   pub opening-at : (row col : ℕ) → row < area .height → col < area .width
-      → opened A K n (spot row col) ↔ ((0 < getD final (row * area .width + col) 0) × (getD final (row * area .width + col) 0 ≤ suc n))
+      → opened A K n (spot row col) ↔
+      ((0 < getD final (row * area .width + col) 0) × (getD final (row * area .width + col) 0 ≤ suc n))
   opening-at row col a b =
       subst (λ l. opened A K n (spot row col) ↔ ((0 < l) × (l ≤ suc n))) (look-inside area final row col a b)
-      (dilated-held (eroded A K n) K (spot row col) n n (look area final (spot row col)) (given .has-origin) (opening-scan (spot row col)) (le-refl n))
+      (dilated-held (eroded A K n) K (spot row col) n n (look area final (spot row col)) (given .has-origin)
+      (opening-scan (spot row col)) (le-refl n))

@@ -40,7 +40,11 @@ first-start R F = record { capped = omega arith; holds = λ k e. absurd (omega a
 
 module _ {n R : ℕ} {F : ℕ → Type 0} {m : ℕ} (found : FirstFrom (n + 1) R F m) where
   pub first-held : n ≤ R → F n → FirstFrom n R F (n + 1)
-  first-held l h = record { capped = omega arith; holds = λ k e. subst F (let q : n ≡ k = omega arith in q) h; below = λ j a b _. (omega arith, omega arith) }
+  first-held l h = record {
+    capped = omega arith;
+    holds = λ k e. subst F (let q : n ≡ k = omega arith in q) h;
+    below = λ j a b _. (omega arith, omega arith);
+  }
 
   pub first-passed : ¬ F n → FirstFrom n R F m
   first-passed f = record { capped = found .capped; holds = found .holds; below = λ j a b h. go j a b h (ℕ-discrete j n) }

@@ -1,4 +1,5 @@
--- The starred cases through the contracts: a case's sheet and element mean the sets that it draws, so the table's answers, which hold of those sets, are right by the contract; and what is right is one thing.
+-- The starred cases through the contracts: a case's sheet and element mean the sets that it draws, so the table's answers, which
+-- hold of those sets, are right by the contract; and what is right is one thing.
 -- That no case is refused, and that its sheet is drawn in 0 and 1, is computed over the whole table.
 use Prim.Native.Nat.{ℕ, _*_, _≤_, _<_}
 use native.Mathlib.Decide.{ℕ-discrete, decLe, decLt}
@@ -11,41 +12,47 @@ use mathlib.Core.List.{List, [], _∷_, _++_}
 use lib.Dec.{eqb, ltb}
 use lib.IntN.{pos}
 use lib.ListN.{length, replicate}
+use Rattle.basics.specs.Bounds.{anyAbove}
 use Rattle.basics.specs.Refusals.{Refusal, first, Answers}
 use Rattle.basics.specs.Tables.{table, raster}
 use Rattle.basics.proofs.RefusalLaws.{accepts, answers-unique}
 use Rattle.basics.proofs.TableLaws.{length-raster, getD-raster}
 use Rattle.grid.specs.Points.{Point, at}
 use Rattle.grid.specs.Sets.{PointSet}
-use Rattle.grid.specs.Starred.{drawn, Question, erosionLevels, openingLevels, dilationLevels, closingLevels, erodedBy, openedBy, IsPixel, IsAnswer, Case, shapeOf, AllHold}
-use Rattle.grid.specs.Starred.{table as cases, foreground as figureOf}
+use Rattle.grid.specs.Starred.{drawn, Question, erosionLevels, openingLevels, dilationLevels, closingLevels, erodedBy, openedBy}
+use Rattle.grid.specs.Starred.{IsPixel, IsAnswer, Case, shapeOf, AllHold}
+use Rattle.grid.specs.Starred.{table as cases, figureOf}
 use Rattle.grid.proofs.LevelLaws.{last-unique, first-unique}
 use Rattle.grid.proofs.SameSets.{answer-same}
 use Rattle.grid.proofs.Searches.{Yes, by-test, all-below, both-dec}
 use Rattle.grid.proofs.Starred.{starred}
-use Rattle.element.specs.Elements.{elementSet, elementRefusals, isSide, anyAboveOne, countSet}
+use Rattle.element.specs.Elements.{elementSet, elementRefusals, isSide, countSet}
 use Rattle.element.proofs.Meaning.{drawn-means}
 use Rattle.sheet.specs.Sheets.{rowBytes, packedByte, packed, foreground, isSideOut, sheetRefusals}
 use Rattle.sheet.proofs.PixelLaws.{packed-means}
 use Rattle.run.specs.Starting.{canvasWrong, canvasSize}
 use Rattle.run.specs.StarredRuns.{sheetOf, bytesOf, levelsOf, pictureOf, RunsGive, AfterOneRow}
 use Rattle.run.proofs.StarredRuns.{starred-runs, after-one-row}
-use Rattle.filters.specs.Filters.{Lent, Cleared, IsSheet, AreLevels, openRefusals, openingRefusals, closingRefusals}
+use Rattle.filters.specs.Filters.{Buffers, Cleared, IsSheet, AreLevels, openRefusals, openingRefusals, closingRefusals}
 use Rattle.filters.specs.StarredFilters.{left, Gives, Given, FiltersGive}
 use Rattle.filters.proofs.Uniqueness.{packed-sheet, sheet-one, levels-one, lent-one}
 
 -- where no refusal applies to buffers that fit, and the answer is right, the contract allows it; and what is right is one thing
-gives : (refusals : Lent → List Refusal) (number : ℕ → ℕ → ℕ → ℕ) → ((lent : Lent) → first (refusals lent) ≡ number (length (lent .first)) (length (lent .second)) (length (lent .out)))
+gives : (refusals : Buffers → List Refusal) (number : ℕ → ℕ → ℕ → ℕ)
+    → ((lent : Buffers) → first (refusals lent) ≡ number (length (lent .first)) (length (lent .second)) (length (lent .out)))
     → (Right : List ℕ → Type 0) → ((x y : List ℕ) → Right x → Right y → x ≡ y)
     → (work : ℕ) (answer : List ℕ) → number work work (length answer) ≡ 0 → Right answer
     → Gives (λ lent. Answers (refusals lent) lent (λ after. Cleared lent after × Right (after .out))) work answer
 gives refusals number by-lengths Right one work answer none right lent fits =
     let z : first (refusals lent) ≡ 0 = by-lengths lent ∙ (rw (fits .first, fits .second, fits .out) none) in
-    let clear : Cleared lent (left work answer) = record { first = ap (λ n. replicate n 0) (sym (fits .first)); second = ap (λ n. replicate n 0) (sym (fits .second)) } in
-    let allowed : Answers (refusals lent) lent (λ after. Cleared lent after × Right (after .out)) 0 (left work answer) = accepts (left work answer) z (clear, right) in
+    let clear : Cleared lent (left work answer) =
+    record { first = ap (λ n. replicate n 0) (sym (fits .first)); second = ap (λ n. replicate n 0) (sym (fits .second)) } in
+    let allowed : Answers (refusals lent) lent (λ after. Cleared lent after × Right (after .out)) 0 (left work answer) =
+    accepts (left work answer) z (clear, right) in
     (allowed, λ m after p. answers-unique (lent-one Right one lent) m 0 after (left work answer) p allowed)
 
--- what is computed of a case: the number that its call answers, by the lengths of the buffers lent, and that its sheet is drawn in 0 and 1
+-- what is computed of a case: the number that its call answers, by the lengths of the buffers lent, and that its sheet is drawn
+-- in 0 and 1
 module _ (c : Case) where
   abbrev numberOf : List Refusal → ℕ → ℕ → ℕ → ℕ → ℕ → ℕ
   numberOf own work entries first-size second-size out-size =
@@ -56,7 +63,8 @@ module _ (c : Case) where
   openNumber n = numberOf ((8, ltb 4096 n) ∷ []) (c .height * c .width) (rowBytes (c .width))
 
   closingNumber : ℕ → ℕ → ℕ → ℕ → ℕ
-  closingNumber R = numberOf ((8, ltb 2047 R) ∷ (9, canvasWrong (c .width) (c .height) R 3) ∷ []) (canvasSize (c .width) (c .height) R 3) (c .width)
+  closingNumber R = numberOf ((8, ltb 2047 R) ∷ (9, canvasWrong (c .width) (c .height) R 3) ∷ [])
+      (canvasSize (c .width) (c .height) R 3) (c .width)
 
   openingNumber : ℕ → ℕ → ℕ → ℕ
   openingNumber = numberOf [] (c .height * c .width) (c .width)
@@ -66,7 +74,8 @@ module _ (c : Case) where
 
   Taken : Question → Type 0
   Taken openingLevels = openingNumber (c .height * c .width) (c .height * c .width) (length (levelsOf c)) ≡ 0
-  Taken (closingLevels R) = closingNumber R (canvasSize (c .width) (c .height) R 3) (canvasSize (c .width) (c .height) R 3) (length (levelsOf c)) ≡ 0
+  Taken (closingLevels R) =
+      closingNumber R (canvasSize (c .width) (c .height) R 3) (canvasSize (c .width) (c .height) R 3) (length (levelsOf c)) ≡ 0
   Taken (openedBy n) = openNumber n (c .height * c .width) (c .height * c .width) (length (pictureOf c)) ≡ 0
   Taken erosionLevels = Unit {0}
   Taken (dilationLevels R) = Unit {0}
@@ -74,7 +83,8 @@ module _ (c : Case) where
 
   binary-dec : Dec Binary
   unfolding Binary
-  binary-dec = all-below (c .height) (λ row. (col : ℕ) → col < c .width → drawn (c .sheet) row col ≤ 1) (λ row. all-below (c .width) (λ col. drawn (c .sheet) row col ≤ 1) (λ col. decLe (drawn (c .sheet) row col) 1))
+  binary-dec = all-below (c .height) (λ row. (col : ℕ) → col < c .width → drawn (c .sheet) row col ≤ 1)
+      (λ row. all-below (c .width) (λ col. drawn (c .sheet) row col ≤ 1) (λ col. decLe (drawn (c .sheet) row col) 1))
 
   taken-dec : (q : Question) → Dec (Taken q)
   unfolding Taken
@@ -95,27 +105,37 @@ all-taken-dec [] = yes tt
 all-taken-dec (c ∷ rest) = both-dec (both-dec (binary-dec c) (taken-dec c (c .question))) (all-taken-dec rest)
 
 all-taken : AllTaken cases
-unfolding Yes all-taken-dec AllTaken Binary Taken binary-dec taken-dec openNumber closingNumber openingNumber all-below both-dec ℕ-discrete decLe decLt table raster packed packedByte isSideOut isSide anyAboveOne countSet
+unfolding Yes all-taken-dec AllTaken Binary Taken binary-dec taken-dec openNumber closingNumber openingNumber all-below both-dec ℕ-discrete decLe decLt table raster packed packedByte isSideOut isSide anyAbove countSet
 all-taken = by-test (all-taken-dec cases) tt
 
 -- the table's answers are right by the contract
 module _ (c : Case) (binary : Binary c) where
-  same-answer : (q : Question) → ((row : ℕ) → row < c .height → (col : ℕ) → col < c .width → IsAnswer q (figureOf c) (shapeOf c) (at (pos row) (pos col)) (drawn (c .expected) row col))
-      → (row col : ℕ) → row < c .height → col < c .width → IsAnswer q (foreground (c .width) (c .height) (sheetOf c)) (elementSet 3 (bytesOf c)) (at (pos row) (pos col)) (drawn (c .expected) row col)
+  same-answer : (q : Question)
+      → ((row : ℕ) → row < c .height → (col : ℕ) → col < c .width
+      → IsAnswer q (figureOf c) (shapeOf c) (at (pos row) (pos col)) (drawn (c .expected) row col))
+      → (row col : ℕ) → row < c .height → col < c .width
+      → IsAnswer q (foreground (c .width) (c .height) (sheetOf c)) (elementSet 3 (bytesOf c)) (at (pos row) (pos col))
+      (drawn (c .expected) row col)
   unfolding Binary
   same-answer q holds row col a b =
       let s = packed-means (c .width) (c .height) (drawn (c .sheet)) (λ i j l m. binary i l j m) in
       let e = drawn-means 3 (drawn (c .shape)) in
       answer-same (s .1, s .0) (e .1, e .0) q (at (pos row) (pos col)) (drawn (c .expected) row col) (holds row a col b)
 
-  are-levels : (IsLevel : Point → ℕ → Type 0) → ((row col : ℕ) → row < c .height → col < c .width → IsLevel (at (pos row) (pos col)) (drawn (c .expected) row col)) → AreLevels (c .width) (c .height) IsLevel (levelsOf c)
+  are-levels : (IsLevel : Point → ℕ → Type 0)
+      → ((row col : ℕ) → row < c .height → col < c .width → IsLevel (at (pos row) (pos col)) (drawn (c .expected) row col))
+      → AreLevels (c .width) (c .height) IsLevel (levelsOf c)
   are-levels IsLevel h = record {
-    levels = λ row col a b. subst (IsLevel (at (pos row) (pos col))) (sym (getD-raster (c .width) (c .height) (drawn (c .expected)) row col 0 a b)) (h row col a b);
+    levels = λ row col a b. subst (IsLevel (at (pos row) (pos col)))
+        (sym (getD-raster (c .width) (c .height) (drawn (c .expected)) row col 0 a b)) (h row col a b);
     size = length-raster (c .width) (c .height) (drawn (c .expected));
   }
 
-  is-sheet : (A : PointSet) → ((row col : ℕ) → row < c .height → col < c .width → IsPixel (A (at (pos row) (pos col))) (drawn (c .expected) row col)) → IsSheet (c .width) (c .height) A (pictureOf c)
-  is-sheet A h = packed-sheet (c .width) (c .height) A (drawn (c .expected)) _ refl (λ row col a b. small (h row col a b)) (λ row col a b. is (h row col a b))
+  is-sheet : (A : PointSet)
+      → ((row col : ℕ) → row < c .height → col < c .width → IsPixel (A (at (pos row) (pos col))) (drawn (c .expected) row col))
+      → IsSheet (c .width) (c .height) A (pictureOf c)
+  is-sheet A h = packed-sheet (c .width) (c .height) A (drawn (c .expected)) _ refl (λ row col a b. small (h row col a b))
+      (λ row col a b. is (h row col a b))
     where
       small : {P : Type 0} {v : ℕ} → IsPixel P v → v ≤ 1
       small (inl p) = le-of-eq (p .0)
@@ -125,7 +145,9 @@ module _ (c : Case) (binary : Binary c) where
       is (inl p) = ((λ _. p .0), (λ _. p .1))
       is (inr p) = ((λ h. absurd (p .1 h)), (λ e. absurd (let z = p .0 in omega arith)))
 
-  given : (q : Question) → Taken c q → ((row : ℕ) → row < c .height → (col : ℕ) → col < c .width → IsAnswer q (figureOf c) (shapeOf c) (at (pos row) (pos col)) (drawn (c .expected) row col)) → Given q c
+  given : (q : Question) → Taken c q
+      → ((row : ℕ) → row < c .height → (col : ℕ) → col < c .width
+      → IsAnswer q (figureOf c) (shapeOf c) (at (pos row) (pos col)) (drawn (c .expected) row col)) → Given q c
   unfolding Taken openNumber closingNumber openingNumber
   given openingLevels t h =
       gives (openingRefusals (c .width) (c .height) (sheetOf c) 3 (bytesOf c)) (openingNumber c) (λ lent. refl)

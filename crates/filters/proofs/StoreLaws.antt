@@ -24,17 +24,23 @@ pub record Storing (levels : List ℕ) (from n low high value at i : ℕ) (befor
   pub below : i ≤ n
   pub patch : Patch at i (λ j. chosen low high value (getD before (at + j) 0) (getD levels (from + j) 0)) before after
 
-pub storing-start : {levels : List ℕ} {from n low high value at : ℕ} {before : List ℕ} → Storing levels from n low high value at 0 before before
+pub storing-start : {levels : List ℕ} {from n low high value at : ℕ} {before : List ℕ}
+    → Storing levels from n low high value at 0 before before
 storing-start {at = at} {before = before} = record { below = omega arith; patch = patch-none at _ before }
 
-module _ {levels : List ℕ} {from n low high value at i : ℕ} {before after : List ℕ} (P : Storing levels from n low high value at i before after) where
-  pub storing-turn : i < n → at + n ≤ length before → (v : ℕ) → v ≡ chosen low high value (getD after (at + i) 0) (getD levels (from + i) 0) → Storing levels from n low high value at (i + 1) before (set after (at + i) v)
+module _ {levels : List ℕ} {from n low high value at i : ℕ} {before after : List ℕ}
+    (P : Storing levels from n low high value at i before after) where
+  pub storing-turn : i < n → at + n ≤ length before → (v : ℕ)
+      → v ≡ chosen low high value (getD after (at + i) 0) (getD levels (from + i) 0)
+      → Storing levels from n low high value at (i + 1) before (set after (at + i) v)
   storing-turn l room v e = record {
     below = omega arith;
-    patch = patch-turn (P .patch) v (omega arith) (e ∙ ap (λ o. chosen low high value o (getD levels (from + i) 0)) (P .patch .later (at + i) (omega arith)));
+    patch = patch-turn (P .patch) v (omega arith)
+        (e ∙ ap (λ o. chosen low high value o (getD levels (from + i) 0)) (P .patch .later (at + i) (omega arith)));
   }
 
-  pub storing-end : n ≤ i → Patch at n (λ j. chosen low high value (getD before (at + j) 0) (getD levels (from + j) 0)) before after
+  pub storing-end : n ≤ i
+      → Patch at n (λ j. chosen low high value (getD before (at + j) 0) (getD levels (from + j) 0)) before after
   storing-end l = patch-all (P .patch) n (let b = P .below in omega arith)
 
 -- all rows of the frame
@@ -43,23 +49,35 @@ module _ (width margin : ℕ) (levels : List ℕ) (low high value : ℕ) where
   storedLevel out row col = chosen low high value (getD out (row * width + col) 0) (levelIn width margin levels row col)
 
   pub stored-row : {row : ℕ} {out after last : List ℕ} → Rows width (storedLevel out) row out after
-      → Patch (row * width) width (λ i. chosen low high value (getD after (row * width + i) 0) (getD levels ((row + margin) * canvasSide width margin + margin + i) 0)) after last
+      → Patch (row * width) width
+      (λ i. chosen low high value (getD after (row * width + i) 0)
+      (getD levels ((row + margin) * canvasSide width margin + margin + i) 0)) after last
       → Rows width (storedLevel out) (row + 1) out last
   stored-row {row} {out} {after} P Q =
-      rows-turn P (patch-as Q (storedLevel out row) (λ i _. ap₂ (λ o v. chosen low high value o v) (P .filled .later (row * width + i) (omega arith))
-      (ap (λ k. getD levels k 0) (let e : (row + margin) * canvasSide width margin + margin + i ≡ (row + margin) * canvasSide width margin + (i + margin) = omega arith in e))))
+      rows-turn P (patch-as Q (storedLevel out row)
+      (λ i _. ap₂ (λ o v. chosen low high value o v) (P .filled .later (row * width + i) (omega arith))
+      (ap (λ k. getD levels k 0)
+      (let e : (row + margin) * canvasSide width margin + margin + i
+      ≡ (row + margin) * canvasSide width margin + (i + margin) = omega arith in e))))
 
-pub stored-is : (r other : Record) → foreign r ≡ false → other ≡ back r → (n : ℕ) → n ≤ 4096 → (low high : ℕ) → low ≡ cond (isErosion other) n 0 → high ≡ cond (isErosion other) none (n + 1)
-    → (second before : List ℕ) (m : ℕ) → m ≡ margin r → {out : List ℕ} → out ≡ raster (r .width) (r .height) (storedLevel (r .width) m second low high (n + 1) before) → out ≡ stored r second n before
+pub stored-is : (r other : Record) → foreign r ≡ false → other ≡ back r → (n : ℕ) → n ≤ 4096 → (low high : ℕ)
+    → low ≡ cond (isErosion other) n 0 → high ≡ cond (isErosion other) none (n + 1)
+    → (second before : List ℕ) (m : ℕ) → m ≡ margin r → {out : List ℕ}
+    → out ≡ raster (r .width) (r .height) (storedLevel (r .width) m second low high (n + 1) before)
+    → out ≡ stored r second n before
 unfolding stored
 stored-is r other taken is n small low high p q second before m e h =
     h ∙ ap (λ k. raster (r .width) (r .height) (storedLevel (r .width) k second low high (n + 1) before)) e
     ∙ ap (λ f. raster (r .width) (r .height) f) (fun-ext (λ row. fun-ext (λ col.
-    chosen-held (back r) (back-taken r taken) n small low high (p ∙ ap (λ x. cond (isErosion x) n 0) is) (q ∙ ap (λ x. cond (isErosion x) none (n + 1)) is) (n + 1) (getD before (row * r .width + col) 0) (frameLevel r second row col))))
+    chosen-held (back r) (back-taken r taken) n small low high (p ∙ ap (λ x. cond (isErosion x) n 0) is)
+    (q ∙ ap (λ x. cond (isErosion x) none (n + 1)) is) (n + 1) (getD before (row * r .width + col) 0)
+    (frameLevel r second row col))))
 
 pub stored-length : (r : Record) (second : List ℕ) (n : ℕ) (out : List ℕ) → length (stored r second n out) ≡ r .height * r .width
 unfolding stored
-stored-length r second n out = length-raster (r .width) (r .height) (λ row col. cond (isHeldAt (back r) n (frameLevel r second row col)) (n + 1) (getD out (row * r .width + col) 0))
+stored-length r second n out =
+    length-raster (r .width) (r .height)
+    (λ row col. cond (isHeldAt (back r) n (frameLevel r second row col)) (n + 1) (getD out (row * r .width + col) 0))
 
 -- upwards through the sizes
 pub record Rises (r : Record) (first second out : List ℕ) (count n : ℕ) (again after : List ℕ) : Type 0 where
@@ -68,15 +86,19 @@ pub record Rises (r : Record) (first second out : List ℕ) (count n : ℕ) (aga
   pub room : length after ≡ r .height * r .width
   pub is : after ≡ rising r first n out
 
-pub rises-start : {r : Record} {first second out : List ℕ} {count : ℕ} → Ready r first second → length out ≡ r .height * r .width → Rises r first second out count 0 second out
+pub rises-start : {r : Record} {first second out : List ℕ} {count : ℕ} → Ready r first second → length out ≡ r .height * r .width
+    → Rises r first second out count 0 second out
 unfolding rising
 rises-start g l = record { below = omega arith; given = g; room = l; is = refl }
 
-ready-again : {r : Record} {first second again : List ℕ} → Ready r first second → length again ≡ length second → Ready r first again
+ready-again : {r : Record} {first second again : List ℕ} → Ready r first second → length again ≡ length second
+    → Ready r first again
 ready-again g e = record { taken = g .taken; first-size = g .first-size; second-size = e ∙ g .second-size }
 
-pub rises-turn : {r : Record} {first second out : List ℕ} {count n : ℕ} {again after : List ℕ} → Rises r first second out count n again after → n < count → {next last : List ℕ}
-    → (length next ≡ length again) × (last ≡ stored r (wayBack r first n) n after) → Rises r first second out count (n + 1) next last
+pub rises-turn : {r : Record} {first second out : List ℕ} {count n : ℕ} {again after : List ℕ}
+    → Rises r first second out count n again after → n < count → {next last : List ℕ}
+    → (length next ≡ length again) × (last ≡ stored r (wayBack r first n) n after)
+    → Rises r first second out count (n + 1) next last
 unfolding rising
 rises-turn {r} {first} {n = n} {after = after} P l (s, e) = record {
   below = omega arith;
@@ -85,8 +107,10 @@ rises-turn {r} {first} {n = n} {after = after} P l (s, e) = record {
   is = rw add-one (e ∙ ap (stored r (wayBack r first n) n) (P .is));
 }
 
-pub rises-end : {r : Record} {first second out : List ℕ} {count n : ℕ} {again after : List ℕ} → Rises r first second out count n again after → count ≤ n → after ≡ rising r first count out
-rises-end {r} {first} {out = out} {count} {n} P l = P .is ∙ ap (λ k. rising r first k out) (let b = P .below in let e : n ≡ count = omega arith in e)
+pub rises-end : {r : Record} {first second out : List ℕ} {count n : ℕ} {again after : List ℕ}
+    → Rises r first second out count n again after → count ≤ n → after ≡ rising r first count out
+rises-end {r} {first} {out = out} {count} {n} P l = P .is
+    ∙ ap (λ k. rising r first k out) (let b = P .below in let e : n ≡ count = omega arith in e)
 
 -- downwards
 pub record Falls (r : Record) (first second out : List ℕ) (count n : ℕ) (again after : List ℕ) : Type 0 where
@@ -95,11 +119,14 @@ pub record Falls (r : Record) (first second out : List ℕ) (count n : ℕ) (aga
   pub room : length after ≡ r .height * r .width
   pub left : falling r first n after ≡ falling r first count out
 
-pub falls-start : {r : Record} {first second out : List ℕ} {count : ℕ} → Ready r first second → length out ≡ r .height * r .width → Falls r first second out count count second out
+pub falls-start : {r : Record} {first second out : List ℕ} {count : ℕ} → Ready r first second → length out ≡ r .height * r .width
+    → Falls r first second out count count second out
 falls-start g l = record { below = omega arith; given = g; room = l; left = refl }
 
-pub falls-turn : {r : Record} {first second out : List ℕ} {count n : ℕ} {again after : List ℕ} → Falls r first second out count n again after → 0 < n → {next last : List ℕ}
-    → (length next ≡ length again) × (last ≡ stored r (wayBack r first (n - 1)) (n - 1) after) → Falls r first second out count (n - 1) next last
+pub falls-turn : {r : Record} {first second out : List ℕ} {count n : ℕ} {again after : List ℕ}
+    → Falls r first second out count n again after → 0 < n → {next last : List ℕ}
+    → (length next ≡ length again) × (last ≡ stored r (wayBack r first (n - 1)) (n - 1) after)
+    → Falls r first second out count (n - 1) next last
 unfolding falling
 falls-turn {r} {first} {out = out} {count} {n} {after = after} P l {last = last} (s, e) = record {
   below = let b = P .below in omega arith;
@@ -111,7 +138,8 @@ falls-turn {r} {first} {out = out} {count} {n} {after = after} P l {last = last}
     same : (k : ℕ) → falling r first k (stored r (wayBack r first k) k after) ≡ falling r first (suc k) after
     same k = refl
 
-pub falls-end : {r : Record} {first second out : List ℕ} {count n : ℕ} {again after : List ℕ} → Falls r first second out count n again after → n ≤ 0 → after ≡ falling r first count out
+pub falls-end : {r : Record} {first second out : List ℕ} {count n : ℕ} {again after : List ℕ}
+    → Falls r first second out count n again after → n ≤ 0 → after ≡ falling r first count out
 unfolding falling
 falls-end {r} {first} {n = n} {after = after} P l = (let z : n ≡ 0 = omega arith in rw z at (P .left))
 
@@ -119,7 +147,8 @@ falls-end {r} {first} {n = n} {after = after} P l = (let z : n ≡ 0 = omega ari
 pub highest-none : (levels : List ℕ) → Highest levels 0 0
 highest-none levels = record { all = λ j l. absurd (omega arith); least = λ bound h. omega arith }
 
-pub highest-turn : {levels : List ℕ} {k m : ℕ} → Highest levels k m → k < length levels → (v : ℕ) → v ≡ max m (getD levels k 0) → Highest levels (k + 1) v
+pub highest-turn : {levels : List ℕ} {k m : ℕ} → Highest levels k m → k < length levels → (v : ℕ) → v ≡ max m (getD levels k 0)
+    → Highest levels (k + 1) v
 highest-turn {levels} {k} {m} P l v e = record {
   all = λ j i. go j i (ℕ-discrete j k);
   least = λ bound h. let a = P .least bound h in let b = h k l in omega arith;

@@ -1,5 +1,7 @@
--- After the way back from a finished erosion, or dilation, the frame's points that it holds at n are those of the set opened, or closed, by n.
--- The first run's levels say, at every point of its area, whether the eroded or dilated set has the point; so the way back starts as the opening and the closing theorem ask.
+-- After the way back from a finished erosion, or dilation, the frame's points that it holds at n are those of the set opened, or
+-- closed, by n.
+-- The first run's levels say, at every point of its area, whether the eroded or dilated set has the point; so the way back starts
+-- as the opening and the closing theorem ask.
 use Prim.Native.Nat.{ℕ, suc, _+_, _*_, _/_, _%_, _≤_, _<_}
 use native.Mathlib.Nat.{zero-mul}
 use native.Mathlib.Omega.{arith}
@@ -40,15 +42,18 @@ use Rattle.run.proofs.Demand2.{same-set, erosion-start, dilation-start}
 use Rattle.filters.specs.Back.{back, backStart, wayBack}
 use Rattle.filters.proofs.Opening.{OpeningStart, opening-at, dilated-held}
 use Rattle.filters.proofs.Closing.{onMargin, closing-at}
-use Rattle.filters.proofs.BackLaws.{range-iff, back-width, back-height, back-taken, marks-decide, marks-size, marks-on, marks-off}
+use Rattle.filters.proofs.BackLaws.{range-iff, back-width, back-height, back-taken, marks-decide, marks-size, marks-on}
+use Rattle.filters.proofs.BackLaws.{marks-off}
 
 -- the frame's points that are held after the way back are those of F n, for every size up to a limit
 abbrev pub HoldsBack : Record → List ℕ → ℕ → (ℕ → PointSet) → Type 0
 HoldsBack r first limit F =
-    (n : ℕ) → n ≤ limit → (row col : ℕ) → row < r .height → col < r .width → F n (at (pos row) (pos col)) ↔ (isHeldAt (back r) n (frameLevel r (wayBack r first n) row col) ≡ true)
+    (n : ℕ) → n ≤ limit → (row col : ℕ) → row < r .height → col < r .width
+    → F n (at (pos row) (pos col)) ↔ (isHeldAt (back r) n (frameLevel r (wayBack r first n) row col) ≡ true)
 
 -- the level that is read at a point of the frame
-frame-level : (r : Record) (levels : List ℕ) (row col : ℕ) → getD levels ((row + margin r) * areaWidth (back r) + (col + margin r)) 0 ≡ frameLevel r levels row col
+frame-level : (r : Record) (levels : List ℕ) (row col : ℕ)
+    → getD levels ((row + margin r) * areaWidth (back r) + (col + margin r)) 0 ≡ frameLevel r levels row col
 frame-level r levels row col = ap (λ w. getD levels ((row + margin r) * w + (col + margin r)) 0) (back-width r)
 
 module _ (width height : ℕ) (sheet : List ℕ) (side : ℕ) (bytes : List ℕ) (given : Accepted side bytes) where
@@ -66,12 +71,14 @@ module _ (width height : ℕ) (sheet : List ℕ) (side : ℕ) (bytes : List ℕ)
     first = finished r (startLevels width height (margin r) sheet none 0)
 
     first-size : length first ≡ areaHeight r * areaWidth r
-    first-size = rows-length (areaOf r) 0 (due r) (startLevels width height (margin r) sheet none 0) ∙ length-start width height (margin r) sheet none 0
+    first-size = rows-length (areaOf r) 0 (due r) (startLevels width height (margin r) sheet none 0)
+        ∙ length-start width height (margin r) sheet none 0
 
     eroded-held : (n : ℕ) (x : Point) → eroded A K n x ↔ (ltb n (look (areaOf r) first x) ≡ true)
     eroded-held n x =
         let l = look (areaOf r) first x in
-        let i = erosion-iff A K x (accepted-origin side bytes given) (erosion-scan (erosion-start width height sheet side bytes given (sound r e)) x) n in
+        let i = erosion-iff A K x (accepted-origin side bytes given)
+        (erosion-scan (erosion-start width height sheet side bytes given (sound r e)) x) n in
         ((λ h. lt-ltb n l (i .0 h)), (λ t. i .1 (ltb-true n l t)))
 
     opening-start : (n : ℕ) → n ≤ 4096 → OpeningStart (areaOf (back r)) A K n (backStart r first n)
@@ -84,7 +91,8 @@ module _ (width height : ℕ) (sheet : List ℕ) (side : ℕ) (bytes : List ℕ)
           has-origin = accepted-origin side bytes given;
           size-fits = omega arith;
           decide = marks-decide r first n (eroded A K n) first-size (eroded-held n);
-          inside = λ x i. let f = figure-in width height (pixel width sheet) x i in let a = f .2 in let b = f .3 in (f .0, f .1, omega arith, omega arith, f .4);
+          inside = λ x i. let f = figure-in width height (pixel width sheet) x i in let a = f .2 in let b = f .3 in
+              (f .0, f .1, omega arith, omega arith, f .4);
           size = marks-size r first n (eroded A K n) first-size (eroded-held n);
           on = marks-on r first n (eroded A K n) first-size (eroded-held n);
           off = marks-off r first n (eroded A K n) first-size (eroded-held n);
@@ -95,8 +103,12 @@ module _ (width height : ℕ) (sheet : List ℕ) (side : ℕ) (bytes : List ℕ)
         let m : margin r ≡ 0 = zero-mul (reach side) in
         let i = opening-at (opening-start n l) (row + margin r) (col + margin r) (omega arith) (omega arith) in
         let q = range-iff n (frameLevel r (wayBack r first n) row col) in
-        let j : opened A K n (spot row col) ↔ ((0 < frameLevel r (wayBack r first n) row col) × (frameLevel r (wayBack r first n) row col ≤ suc n)) =
-        rw (frame-level r (wayBack r first n) row col) at (subst (λ p. opened A K n p ↔ ((0 < getD (wayBack r first n) ((row + margin r) * areaWidth (back r) + (col + margin r)) 0) × (getD (wayBack r first n) ((row + margin r) * areaWidth (back r) + (col + margin r)) 0 ≤ suc n)))
+        let j : opened A K n (spot row col) ↔
+        ((0 < frameLevel r (wayBack r first n) row col) × (frameLevel r (wayBack r first n) row col ≤ suc n)) =
+        rw (frame-level r (wayBack r first n) row col) at
+        (subst (λ p. opened A K n p ↔
+        ((0 < getD (wayBack r first n) ((row + margin r) * areaWidth (back r) + (col + margin r)) 0) ×
+        (getD (wayBack r first n) ((row + margin r) * areaWidth (back r) + (col + margin r)) 0 ≤ suc n)))
         (ap₂ spot (let z : row + margin r ≡ row = omega arith in z) (let z : col + margin r ≡ col = omega arith in z)) i) in
         ((λ h. q .0 (j .0 h)), (λ t. j .1 (q .1 t)))
 
@@ -104,8 +116,11 @@ module _ (width height : ℕ) (sheet : List ℕ) (side : ℕ) (bytes : List ℕ)
     look-at : (k : ℕ) → k < length first → (x : Point) × (look (areaOf r) first x ≡ getD first k 0)
     look-at k l =
         let w = areaWidth r in
-        let s : k < areaHeight r * w = let z = first-size in omega arith in
-        (spot (k / w) (k % w), look-inside (areaOf r) first (k / w) (k % w) (row-below w (areaHeight r) k s) (column-below w (areaHeight r) k s) ∙ ap (λ j. getD first j 0) (entry-of w k))
+        let s : k < areaHeight r * w = let z = first-size in omega arith in (
+          spot (k / w) (k % w),
+          look-inside (areaOf r) first (k / w) (k % w) (row-below w (areaHeight r) k s)
+              (column-below w (areaHeight r) k s) ∙ ap (λ j. getD first j 0) (entry-of w k),
+        )
 
     pub first-small : (k : ℕ) → k < length first → getD first k 0 ≤ 4096
     first-small k l =
@@ -116,7 +131,8 @@ module _ (width height : ℕ) (sheet : List ℕ) (side : ℕ) (bytes : List ℕ)
         let m = erosion-small (erosion-start width height sheet side bytes given s) x in
         omega arith
 
-    pub opened-below : (most : ℕ) → ((k : ℕ) → k < length first → getD first k 0 ≤ most) → (j : ℕ) (x : Point) → opened A K j x → j < most
+    pub opened-below : (most : ℕ) → ((k : ℕ) → k < length first → getD first k 0 ≤ most) → (j : ℕ) (x : Point) → opened A K j x
+        → j < most
     opened-below most all j x (a, b, h, _, _) = go (frame-decided (areaWidth r) (areaHeight r) a)
       where
         l : j < look (areaOf r) first a
@@ -124,7 +140,8 @@ module _ (width height : ℕ) (sheet : List ℕ) (side : ℕ) (bytes : List ℕ)
 
         go : Dec (frame (areaWidth r) (areaHeight r) a) → j < most
         go (yes (row, col, i, k, q)) =
-            let m = all (row * areaWidth r + col) (let p = place-in (areaWidth r) (areaHeight r) row col i k in let z = first-size in omega arith) in
+            let m = all (row * areaWidth r + col)
+            (let p = place-in (areaWidth r) (areaHeight r) row col i k in let z = first-size in omega arith) in
             let v = ap (look (areaOf r) first) q ∙ look-inside (areaOf r) first row col i k in
             let u = l in
             omega arith
@@ -138,7 +155,8 @@ module _ (width height : ℕ) (sheet : List ℕ) (side : ℕ) (bytes : List ℕ)
     first₂ = finished r₂ (startLevels width height (margin r₂) sheet 1 none)
 
     first-size₂ : length first₂ ≡ areaHeight r₂ * areaWidth r₂
-    first-size₂ = rows-length (areaOf r₂) 0 (due r₂) (startLevels width height (margin r₂) sheet 1 none) ∙ length-start width height (margin r₂) sheet 1 none
+    first-size₂ = rows-length (areaOf r₂) 0 (due r₂) (startLevels width height (margin r₂) sheet 1 none)
+        ∙ length-start width height (margin r₂) sheet 1 none
 
     -- the dilated set as it lies on the canvas
     abbrev D : ℕ → PointSet
@@ -146,9 +164,11 @@ module _ (width height : ℕ) (sheet : List ℕ) (side : ℕ) (bytes : List ℕ)
 
     in-range : (n : ℕ) → n ≤ R → (x : Point) → D n x ↔ ((0 < look (areaOf r₂) first₂ x) × (look (areaOf r₂) first₂ x ≤ suc n))
     in-range n l x =
-        dilated-held A K _ R n (look (areaOf r₂) first₂ x) (accepted-origin side bytes given) (dilation-scan (dilation-start width height sheet side bytes R given (sound r₂ e)) x) l
+        dilated-held A K _ R n (look (areaOf r₂) first₂ x) (accepted-origin side bytes given)
+        (dilation-scan (dilation-start width height sheet side bytes R given (sound r₂ e)) x) l
 
-    is-held : (n : ℕ) → n ≤ R → (x : Point) → D n x ↔ (leb 1 (look (areaOf r₂) first₂ x) && leb (look (areaOf r₂) first₂ x) (suc n) ≡ true)
+    is-held : (n : ℕ) → n ≤ R → (x : Point)
+        → D n x ↔ (leb 1 (look (areaOf r₂) first₂ x) && leb (look (areaOf r₂) first₂ x) (suc n) ≡ true)
     is-held n l x =
         let i = in-range n l x in
         let q = range-iff n (look (areaOf r₂) first₂ x) in
@@ -196,5 +216,6 @@ module _ (width height : ℕ) (sheet : List ℕ) (side : ℕ) (bytes : List ℕ)
         let v = back-height r₂ in
         let level = frameLevel r₂ (wayBack r₂ first₂ n) row col in
         let i : closed A K n (spot row col) ↔ (n < level) =
-        rw (frame-level r₂ (wayBack r₂ first₂ n) row col) at (closing-at (margin r₂) n (closing-start n l) row col (omega arith) (omega arith)) in
+        rw (frame-level r₂ (wayBack r₂ first₂ n) row col) at
+        (closing-at (margin r₂) n (closing-start n l) row col (omega arith) (omega arith)) in
         ((λ h. lt-ltb n level (i .0 h)), (λ t. i .1 (ltb-true n level t)))

@@ -1,4 +1,5 @@
--- The way back from a finished run: an opening dilates what an erosion left, a closing erodes what a dilation gave, on all of the area that the run worked on.
+-- The way back from a finished run: an opening dilates what an erosion left, a closing erodes what a dilation gave, on all of the
+-- area that the run worked on.
 use Prim.Native.Nat.{ℕ, zero, suc, _+_, _*_, _≤_, _<_}
 use mathlib.Core.Path.{_≡_}
 use mathlib.Core.Bool.{Bool, false, not, cond, _||_}
@@ -19,7 +20,15 @@ use Rattle.run.specs.Demand2.{finished}
 
 -- the run of the other kind; its frame is the whole area, so it has no margin of its own
 abbrev pub back : Record → Record
-back r = record { kind = cond (isErosion r) 2 1; width = areaWidth r; height = areaHeight r; cap = 0; side = r .side; rows = 0; cells = r .cells }
+back r = record {
+  kind = cond (isErosion r) 2 1;
+  width = areaWidth r;
+  height = areaHeight r;
+  cap = 0;
+  side = r .side;
+  rows = 0;
+  cells = r .cells;
+}
 
 -- what a run of its kind starts with, on its set and off it
 abbrev pub onOf : Record → ℕ
@@ -42,7 +51,9 @@ keptSheet r second n = packed (r .width) (r .height) (λ row col. cond (isHeldAt
 
 -- the frame's points that are held after the way back get the size and one as their level, the others keep theirs
 unfoldable pub stored : Record → List ℕ → ℕ → List ℕ → List ℕ
-stored r second n out = raster (r .width) (r .height) (λ row col. cond (isHeldAt (back r) n (frameLevel r second row col)) (n + 1) (getD out (row * r .width + col) 0))
+stored r second n out =
+    raster (r .width) (r .height)
+    (λ row col. cond (isHeldAt (back r) n (frameLevel r second row col)) (n + 1) (getD out (row * r .width + col) 0))
 
 -- so for the sizes 0 to n - 1, upwards and downwards
 unfoldable pub rising : Record → List ℕ → ℕ → List ℕ → List ℕ
@@ -84,7 +95,8 @@ roomRefusals width height cap side first second out entries =
 -- 2 to 11, of all four calls; `bad` says whether the call's own 8 applies
 abbrev pub filterRefusals : ℕ → ℕ → List ℕ → ℕ → List ℕ → Bool → ℕ → ℕ → ℕ → ℕ → ℕ → List Refusal
 filterRefusals width height sheet side bytes bad cap first second out entries =
-    sheetRefusals width height sheet ++ (elementRefusals side bytes ++ (8, bad) ∷ roomRefusals width height cap side first second out entries)
+    sheetRefusals width height sheet ++
+    (elementRefusals side bytes ++ (8, bad) ∷ roomRefusals width height cap side first second out entries)
 
 -- the entries of a row of a packed sheet, or of levels
 abbrev pub entriesOf : Bool → ℕ → ℕ

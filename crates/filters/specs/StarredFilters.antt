@@ -1,4 +1,5 @@
--- Document 01's starred cases once more, through the contracts of opening and closing: with buffers that fit, the one outcome that a contract allows is 0 with the table's answer.
+-- Document 01's starred cases once more, through the contracts of opening and closing: with buffers that fit, the one outcome
+-- that a contract allows is 0 with the table's answer.
 use Prim.Native.Nat.{ℕ, _*_}
 use mathlib.Core.Path.{_≡_}
 use mathlib.Core.List.{List, [], _∷_}
@@ -6,27 +7,30 @@ use lib.ListN.{length, replicate}
 use Rattle.grid.specs.Starred.{Question, erosionLevels, openingLevels, dilationLevels, closingLevels, erodedBy, openedBy, Case}
 use Rattle.run.specs.Starting.{canvasSize}
 use Rattle.run.specs.StarredRuns.{sheetOf, bytesOf, levelsOf, pictureOf}
-use Rattle.filters.specs.Filters.{Lent, Opens, OpeningLevels, ClosingLevels}
+use Rattle.filters.specs.Filters.{Buffers, Opens, OpeningLevels, ClosingLevels}
 
 -- buffers of the sizes asked for, whatever they hold
-pub record Fits (work size : ℕ) (lent : Lent) : Type 0 where
+pub record Fits (work size : ℕ) (lent : Buffers) : Type 0 where
   pub first : length (lent .first) ≡ work
   pub second : length (lent .second) ≡ work
   pub out : length (lent .out) ≡ size
 
 -- what an accepted call leaves in them
-abbrev pub left : ℕ → List ℕ → Lent
+abbrev pub left : ℕ → List ℕ → Buffers
 left work answer = record { first = replicate work 0; second = replicate work 0; out = answer }
 
 -- the contract allows one outcome with such buffers: 0, with `answer`
-abbrev pub Gives : (Lent → ℕ → Lent → Type 0) → ℕ → List ℕ → Type 0
+abbrev pub Gives : (Buffers → ℕ → Buffers → Type 0) → ℕ → List ℕ → Type 0
 Gives Contract work answer =
-    (lent : Lent) → Fits work (length answer) lent → Contract lent 0 (left work answer) × ((number : ℕ) (after : Lent) → Contract lent number after → (number ≡ 0) × (after ≡ left work answer))
+    (lent : Buffers) → Fits work (length answer) lent
+    → Contract lent 0 (left work answer) ×
+    ((number : ℕ) (after : Buffers) → Contract lent number after → (number ≡ 0) × (after ≡ left work answer))
 
 -- so for the opening and closing questions of the table; the others are runs' (StarredRuns of run)
 abbrev pub Given : Question → Case → Type 0
 Given openingLevels c = Gives (OpeningLevels (c .width) (c .height) (sheetOf c) 3 (bytesOf c)) (c .height * c .width) (levelsOf c)
-Given (closingLevels R) c = Gives (ClosingLevels (c .width) (c .height) (sheetOf c) 3 (bytesOf c) R) (canvasSize (c .width) (c .height) R 3) (levelsOf c)
+Given (closingLevels R) c =
+    Gives (ClosingLevels (c .width) (c .height) (sheetOf c) 3 (bytesOf c) R) (canvasSize (c .width) (c .height) R 3) (levelsOf c)
 Given (openedBy n) c = Gives (Opens (c .width) (c .height) (sheetOf c) 3 (bytesOf c) n) (c .height * c .width) (pictureOf c)
 Given erosionLevels c = Unit {0}
 Given (dilationLevels R) c = Unit {0}

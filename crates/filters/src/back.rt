@@ -58,7 +58,8 @@ pub fn choose(level: u16, low: u16, high: u16, on: u16, off: u16) -> u16
 // Marks the second levels by the first: `on` where those are held, else `off`.
 fn mark(first: &[u16], low: u16, high: u16, on: u16, off: u16, second: &mut [u16])
     requires { ⌜ length (now second) ≡ length (now first) ⌝ }
-    ensures { λ _. ⌜ now (second .exit) ≡ table (length (now (first .entry))) (λ k. chosen low high on off (getD (now (first .entry)) k 0)) ⌝ }
+    ensures { λ _. ⌜ now (second .exit)
+        ≡ table (length (now (first .entry))) (λ k. chosen low high on off (getD (now (first .entry)) k 0)) ⌝ }
 {
     let mut k = 0;
     while k < first.len() {
@@ -104,7 +105,8 @@ pub fn clear(levels: &mut [u16])
 }
 
 pub fn clear_both(first: &mut [u16], second: &mut [u16])
-    ensures { λ _. ⌜ (now (first .exit) ≡ replicate (length (now (first .entry))) 0) × (now (second .exit) ≡ replicate (length (now (second .entry))) 0) ⌝ }
+    ensures { λ _. ⌜ (now (first .exit) ≡ replicate (length (now (first .entry))) 0) ×
+        (now (second .exit) ≡ replicate (length (now (second .entry))) 0) ⌝ }
 {
     clear(first);
     clear(second);
@@ -112,7 +114,8 @@ pub fn clear_both(first: &mut [u16], second: &mut [u16])
 
 // The sheet at a size, from a finished run.
 fn sheet_back(run: Record, size: usize, first: &[u16], second: &mut [u16], out: &mut [u8])
-    requires { ⌜ Ready run (now first) (now second) × ((size ≤ 4096) × (length (now out) ≡ run .height * rowBytes (run .width))) ⌝ }
+    requires { ⌜ Ready run (now first) (now second) ×
+        ((size ≤ 4096) × (length (now out) ≡ run .height * rowBytes (run .width))) ⌝ }
     ensures { λ _. ⌜ (length (now (second .exit)) ≡ length (now (second .entry))) ×
         (now (out .exit) ≡ keptSheet run (wayBack run (now (first .entry)) size) size) ⌝ }
 {
@@ -122,7 +125,8 @@ fn sheet_back(run: Record, size: usize, first: &[u16], second: &mut [u16], out: 
 
 // The same, and both work buffers are cleared.
 pub fn filter_sheet(run: Record, size: usize, first: &mut [u16], second: &mut [u16], out: &mut [u8])
-    requires { ⌜ Ready run (now first) (now second) × ((size ≤ 4096) × (length (now out) ≡ run .height * rowBytes (run .width))) ⌝ }
+    requires { ⌜ Ready run (now first) (now second) ×
+        ((size ≤ 4096) × (length (now out) ≡ run .height * rowBytes (run .width))) ⌝ }
     ensures { λ _. ⌜ (now (first .exit) ≡ replicate (length (now (first .entry))) 0) ×
         ((now (second .exit) ≡ replicate (length (now (second .entry))) 0) ×
         (now (out .exit) ≡ keptSheet run (wayBack run (now (first .entry)) size) size)) ⌝ }

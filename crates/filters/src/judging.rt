@@ -59,7 +59,9 @@ pub fn filter_refusal(
     packed: bool,
 ) -> u32
     requires { ⌜ (bad ≡ false → cap ≤ 2047) ⌝ }
-    ensures { λ r. ⌜ r ≡ first (filterRefusals width height (now (sheet .entry)) side (now (bytes .entry)) bad cap work spare room (entriesOf packed width)) ⌝ }
+    ensures { λ r. ⌜ r ≡ first
+        (filterRefusals width height (now (sheet .entry)) side (now (bytes .entry)) bad cap work spare room
+        (entriesOf packed width)) ⌝ }
 {
     let refusal = run::starting::start_refusal(width, height, sheet, side, bytes);
     if refusal != 0 {

@@ -22,7 +22,9 @@ fn store_row(
     at: usize,
 )
     requires { ⌜ (from + n ≤ length (now levels)) × (at + n ≤ length (now out)) ⌝ }
-    ensures { λ _. ⌜ Patch at n (λ i. chosen low high value (getD (now (out .entry)) (at + i) 0) (getD (now (levels .entry)) (from + i) 0)) (now (out .entry)) (now (out .exit)) ⌝ }
+    ensures { λ _. ⌜ Patch at n
+        (λ i. chosen low high value (getD (now (out .entry)) (at + i) 0) (getD (now (levels .entry)) (from + i) 0))
+        (now (out .entry)) (now (out .exit)) ⌝ }
 {
     let mut i = 0;
     while i < n {
@@ -44,7 +46,9 @@ fn store_rows(
     out: &mut [u16],
 )
     requires { ⌜ Canvas width height margin (now levels) × (length (now out) ≡ height * width) ⌝ }
-    ensures { λ _. ⌜ now (out .exit) ≡ raster width height (λ row col. chosen low high value (getD (now (out .entry)) (row * width + col) 0) (levelIn width margin (now (levels .entry)) row col)) ⌝ }
+    ensures { λ _. ⌜ now (out .exit)
+        ≡ raster width height (λ row col. chosen low high value (getD (now (out .entry)) (row * width + col) 0)
+        (levelIn width margin (now (levels .entry)) row col)) ⌝ }
 {
     let side = width + (margin + margin);
     let mut row = 0;
@@ -155,7 +159,8 @@ pub fn filter_rising(run: Record, first: &mut [u16], second: &mut [u16], out: &m
     requires { ⌜ Ready run (now first) (now second) × (((k : ℕ) → k < length (now first) → getD (now first) k 0 ≤ 4096) ×
         (length (now out) ≡ run .height * run .width)) ⌝ }
     ensures { λ _. ⌜ (now (first .exit) ≡ replicate (length (now (first .entry))) 0) ×
-        ((now (second .exit) ≡ replicate (length (now (second .entry))) 0) × Risen run (now (first .entry)) (now (out .entry)) (now (out .exit))) ⌝ }
+        ((now (second .exit) ≡ replicate (length (now (second .entry))) 0) ×
+        Risen run (now (first .entry)) (now (out .entry)) (now (out .exit))) ⌝ }
 {
     all_rising(run, first, second, out);
     back::clear_both(first, second);

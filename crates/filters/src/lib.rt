@@ -24,7 +24,8 @@ fn eroded_run(
 ) -> Record
     requires { ⌜ first (erosionRefusals width height (now sheet) side (now bytes) (now levels)) ≡ 0 ⌝ }
     ensures { λ r. ⌜ (r ≡ startRecord 1 width height 0 side (now (bytes .entry))) ×
-        (now (levels .exit) ≡ finished (startRecord 1 width height 0 side (now (bytes .entry))) (startLevels width height 0 (now (sheet .entry)) none 0)) ⌝ }
+        (now (levels .exit) ≡ finished (startRecord 1 width height 0 side (now (bytes .entry)))
+        (startLevels width height 0 (now (sheet .entry)) none 0)) ⌝ }
 {
     let started = run::starting::start_erosion(width, height, sheet, side, bytes, levels);
     let run = started.run;
@@ -44,7 +45,8 @@ fn dilated_run(
 ) -> Record
     requires { ⌜ first (dilationRefusals width height (now sheet) side (now bytes) cap (now levels)) ≡ 0 ⌝ }
     ensures { λ r. ⌜ (r ≡ startRecord 2 width height cap side (now (bytes .entry))) ×
-        (now (levels .exit) ≡ finished (startRecord 2 width height cap side (now (bytes .entry))) (startLevels width height (marginOf cap side) (now (sheet .entry)) 1 none)) ⌝ }
+        (now (levels .exit) ≡ finished (startRecord 2 width height cap side (now (bytes .entry)))
+        (startLevels width height (marginOf cap side) (now (sheet .entry)) 1 none)) ⌝ }
 {
     let started = run::starting::start_dilation(width, height, sheet, side, bytes, cap, levels);
     let run = started.run;

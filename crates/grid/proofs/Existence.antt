@@ -12,7 +12,8 @@ use Rattle.grid.specs.Figures.{frame, figure, element}
 use Rattle.grid.proofs.PointLaws.{⊕-origin}
 use Rattle.grid.proofs.SetLaws.{fold-origin, eroded-shrinks}
 use Rattle.grid.proofs.ReachLaws.{figure-in, times, times-fold, leaves}
-use Rattle.grid.proofs.Searches.{eroded-decided, dilated-decided, opened-decided, closed-decided, figure-decided, element-searched}
+use Rattle.grid.proofs.Searches.{eroded-decided, dilated-decided, opened-decided, closed-decided, figure-decided}
+use Rattle.grid.proofs.Searches.{element-searched}
 
 module _ (width height : ℕ) (A K : PointSet) (inside : A ⊆ frame width height) (b : Point) (kb : K b) (ne : b ≢ origin) where
   -- a size that erosion or opening holds anywhere is below the larger side
@@ -24,13 +25,15 @@ module _ (width height : ℕ) (A K : PointSet) (inside : A ⊆ frame width heigh
       go (no f) =
           let m = max width height in
           let g = eroded-shrinks A K o m n (omega arith) x h in
-          absurd (leaves width height b x ne (inside x (subst A (⊕-origin x) (h origin (fold-origin K o n)))) (inside (x ⊕ times m b) (g (times m b) (times-fold K b kb m))))
+          absurd (leaves width height b x ne (inside x (subst A (⊕-origin x) (h origin (fold-origin K o n))))
+          (inside (x ⊕ times m b) (g (times m b) (times-fold K b kb m))))
 
   pub opened-bound : K origin → (n : ℕ) (x : Point) → opened A K n x → n < max width height
   opened-bound o n x h = eroded-bound o n (h .0) (h .2)
 
 -- the largest size below a bound, and the least up to a cap
-pub last-exists : (F : ℕ → Type 0) → ((n : ℕ) → Dec (F n)) → (bound : ℕ) → ((j : ℕ) → F j → j < bound) → (m : ℕ) × IsLast F m × (m ≤ bound)
+pub last-exists : (F : ℕ → Type 0) → ((n : ℕ) → Dec (F n)) → (bound : ℕ) → ((j : ℕ) → F j → j < bound)
+    → (m : ℕ) × IsLast F m × (m ≤ bound)
 last-exists F d zero f = (zero, record { holds = λ k e. absurd (omega arith); above = f }, omega arith)
 last-exists F d (suc b) f = go (d b) (λ g. last-exists F d b g)
   where
@@ -70,9 +73,20 @@ first-exists F d R = found (least (suc R))
     found (inl h) =
         let l = h .1 in (
           suc (h .0),
-          record { capped = omega arith; holds = λ k e. subst F (let q : h .0 ≡ k = omega arith in q) (h .2); below = λ j c g. (omega arith, (let q = h .3 j g in omega arith)) },
+          record {
+            capped = omega arith;
+            holds = λ k e. subst F (let q : h .0 ≡ k = omega arith in q) (h .2);
+            below = λ j c g. (omega arith, (let q = h .3 j g in omega arith));
+          },
         )
-    found (inr z) = (zero, record { capped = omega arith; holds = λ k e. absurd (omega arith); below = λ j c g. absurd (z j (omega arith) g) })
+    found (inr z) = (
+      zero,
+      record {
+        capped = omega arith;
+        holds = λ k e. absurd (omega arith);
+        below = λ j c g. absurd (z j (omega arith) g);
+      },
+    )
 
 -- for every sheet and every element with its centre set and not alone
 module _ (width height : ℕ) (pixel : ℕ → ℕ → ℕ) (side : ℕ) (cell : ℕ → ℕ → ℕ) where
@@ -85,16 +99,22 @@ module _ (width height : ℕ) (pixel : ℕ → ℕ → ℕ) (side : ℕ) (cell :
   module _ (o : K origin) (b : Point) (kb : K b) (ne : b ≢ origin) where
     pub erosion-level-exists : (x : Point) → (m : ℕ) × IsErosionLevel A K x m × (m ≤ max width height)
     erosion-level-exists x =
-        last-exists (λ n. eroded A K n x) (λ n. eroded-decided (figure-decided width height pixel) (element-searched side cell) n x) (max width height)
+        last-exists (λ n. eroded A K n x)
+        (λ n. eroded-decided (figure-decided width height pixel) (element-searched side cell) n x) (max width height)
         (λ n h. eroded-bound width height A K (figure-in width height pixel) b kb ne o n x h)
 
     pub opening-level-exists : (x : Point) → (m : ℕ) × IsOpeningLevel A K x m × (m ≤ max width height)
     opening-level-exists x =
-        last-exists (λ n. opened A K n x) (λ n. opened-decided (figure-decided width height pixel) (element-searched side cell) n x) (max width height)
+        last-exists (λ n. opened A K n x)
+        (λ n. opened-decided (figure-decided width height pixel) (element-searched side cell) n x) (max width height)
         (λ n h. opened-bound width height A K (figure-in width height pixel) b kb ne o n x h)
 
   pub dilation-level-exists : (R : ℕ) (x : Point) → (m : ℕ) × IsDilationLevel R A K x m
-  dilation-level-exists R x = first-exists (λ n. dilated A K n x) (λ n. dilated-decided (figure-decided width height pixel) (element-searched side cell) n x) R
+  dilation-level-exists R x =
+      first-exists (λ n. dilated A K n x)
+      (λ n. dilated-decided (figure-decided width height pixel) (element-searched side cell) n x) R
 
   pub closing-level-exists : (R : ℕ) (x : Point) → (m : ℕ) × IsClosingLevel R A K x m
-  closing-level-exists R x = first-exists (λ n. closed A K n x) (λ n. closed-decided (figure-decided width height pixel) (element-searched side cell) n x) R
+  closing-level-exists R x =
+      first-exists (λ n. closed A K n x)
+      (λ n. closed-decided (figure-decided width height pixel) (element-searched side cell) n x) R

@@ -19,9 +19,12 @@ last-unique p q = le-antisymm (le p q) (le q p)
 
 pub first-unique : {R : ℕ} {F : ℕ → Type 0} {m n : ℕ} → IsFirst R F m → IsFirst R F n → m ≡ n
 first-unique {m = zero} {n = zero} p q = refl
-first-unique {m = zero} {n = suc k} p q = let h : zero < zero = p .below k (let c = q .capped in omega arith) (q .holds k refl) .0 in omega arith
-first-unique {m = suc k} {n = zero} p q = let h : zero < zero = q .below k (let c = p .capped in omega arith) (p .holds k refl) .0 in omega arith
-first-unique {m = suc j} {n = suc k} p q = let h = p .below k (let c = q .capped in omega arith) (q .holds k refl) .1 in let g = q .below j (let c = p .capped in omega arith) (p .holds j refl) .1 in omega arith
+first-unique {m = zero} {n = suc k} p q = let h : zero < zero =
+    p .below k (let c = q .capped in omega arith) (q .holds k refl) .0 in omega arith
+first-unique {m = suc k} {n = zero} p q = let h : zero < zero =
+    q .below k (let c = p .capped in omega arith) (p .holds k refl) .0 in omega arith
+first-unique {m = suc j} {n = suc k} p q = let h = p .below k (let c = q .capped in omega arith) (q .holds k refl) .1 in
+    let g = q .below j (let c = p .capped in omega arith) (p .holds j refl) .1 in omega arith
 
 -- where F falls as the size grows, size j holds exactly below the level
 pub last-iff : {F : ℕ → Type 0} {m : ℕ} → ((i j : ℕ) → i ≤ j → F j → F i) → IsLast F m → (j : ℕ) → F j ↔ (j < m)
@@ -29,7 +32,8 @@ last-iff {m = zero} falls p j = (p .above j, λ l. absurd (omega arith))
 last-iff {m = suc k} falls p j = (p .above j, λ l. falls j k (omega arith) (p .holds k refl))
 
 -- where F grows, size j up to the cap holds exactly from the level on
-pub first-iff : {R : ℕ} {F : ℕ → Type 0} {m : ℕ} → ((i j : ℕ) → i ≤ j → F i → F j) → IsFirst R F m → (j : ℕ) → j ≤ R → F j ↔ ((0 < m) × (m ≤ suc j))
+pub first-iff : {R : ℕ} {F : ℕ → Type 0} {m : ℕ} → ((i j : ℕ) → i ≤ j → F i → F j) → IsFirst R F m → (j : ℕ) → j ≤ R
+    → F j ↔ ((0 < m) × (m ≤ suc j))
 first-iff {m = zero} grows p j l = (p .below j l, λ q. absurd (let z = q .0 in omega arith))
 first-iff {m = suc k} grows p j l = (p .below j l, λ q. grows k j (let z = q .1 in omega arith) (p .holds k refl))
 

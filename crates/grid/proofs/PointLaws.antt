@@ -1,4 +1,5 @@
--- Laws of points: sums by components, from the integers' own laws; and equations of integers turned into equations of naturals, which omega reads.
+-- Laws of points: sums by components, from the integers' own laws; and equations of integers turned into equations of naturals,
+-- which omega reads.
 use mathlib.Core.Path.{_≡_, sym, _∙_, ap, ap₂}
 use Prim.Native.Nat.{ℕ, suc, _+_}
 use lib.IntN.{ℤ, pos, negsuc, negℤ, _+ℤ_, _-ℤ_, +ℤ-idr, +ℤ-assoc, +ℤ-comm, -ℤ-+ℤ-cancel, +ℤ-negℤ-cancel, negℤ-+ℤ, negℤ-negℤ}
@@ -49,7 +50,9 @@ pub sum-neg : (a c d : ℕ) → pos a +ℤ negsuc c ≡ pos d → a ≡ d + suc 
 sum-neg a c d e = pos-inj (sym (-ℤ-+ℤ-cancel (pos a) (pos (suc c))) ∙ ap (λ z. z +ℤ pos (suc c)) e)
 
 pub sum-diff : (x i k y : ℕ) → pos x +ℤ (pos i -ℤ pos k) ≡ pos y → x + i ≡ y + k
-sum-diff x i k y e = pos-inj (sym (-ℤ-+ℤ-cancel (pos x +ℤ pos i) (pos k)) ∙ ap (λ z. z +ℤ pos k) (+ℤ-assoc (pos x) (pos i) (negℤ (pos k)) ∙ e))
+sum-diff x i k y e = pos-inj
+    (sym (-ℤ-+ℤ-cancel (pos x +ℤ pos i) (pos k)) ∙ ap (λ z. z +ℤ pos k) (+ℤ-assoc (pos x) (pos i) (negℤ (pos k)) ∙ e))
 
 pub diff-sum : (x i k y : ℕ) → x + i ≡ y + k → pos x +ℤ (pos i -ℤ pos k) ≡ pos y
-diff-sum x i k y e = sym (+ℤ-assoc (pos x) (pos i) (negℤ (pos k))) ∙ ap (λ (n : ℕ). pos n -ℤ pos k) e ∙ +ℤ-negℤ-cancel (pos y) (pos k)
+diff-sum x i k y e = sym (+ℤ-assoc (pos x) (pos i) (negℤ (pos k))) ∙ ap (λ (n : ℕ). pos n -ℤ pos k) e
+    ∙ +ℤ-negℤ-cancel (pos y) (pos k)

@@ -17,8 +17,10 @@ pub figure-in : (width height : ℕ) (cell : ℕ → ℕ → ℕ) → figure wid
 figure-in width height cell p (row, col, a, b, one, e) = (row, col, a, b, e)
 
 -- an element of an odd side reaches half of it, less the centre
-pub element-reach : (side : ℕ) (cell : ℕ → ℕ → ℕ) (b : Point) → side % 2 ≡ 1 → element side cell b → (natAbs (b .row) ≤ reach side) × (natAbs (b .col) ≤ reach side)
-element-reach side cell b odd (row, col, i, j, one, e) = (near (b .row) row i (ap (λ p. p .row) e), near (b .col) col j (ap (λ p. p .col) e))
+pub element-reach : (side : ℕ) (cell : ℕ → ℕ → ℕ) (b : Point) → side % 2 ≡ 1 → element side cell b
+    → (natAbs (b .row) ≤ reach side) × (natAbs (b .col) ≤ reach side)
+element-reach side cell b odd (row, col, i, j, one, e) =
+    (near (b .row) row i (ap (λ p. p .row) e), near (b .col) col j (ap (λ p. p .col) e))
   where
     near : (z : ℤ) (n : ℕ) → n < side → z +ℤ pos (reach side) ≡ pos n → natAbs z ≤ reach side
     near (pos c) n l f = let h = pos-inj f in omega arith
@@ -40,9 +42,11 @@ abs-sum (negsuc m) (pos n) = signs (ltb n (suc m))
 abs-sum (negsuc m) (negsuc n) = omega arith
 
 -- a fold nK reaches n times as far as K, in a coordinate
-pub fold-reach : (K : PointSet) (coord : Point → ℤ) (r : ℕ) → coord origin ≡ pos 0 → ((p q : Point) → coord (p ⊕ q) ≡ coord p +ℤ coord q) → ((b : Point) → K b → natAbs (coord b) ≤ r)
+pub fold-reach : (K : PointSet) (coord : Point → ℤ) (r : ℕ) → coord origin ≡ pos 0
+    → ((p q : Point) → coord (p ⊕ q) ≡ coord p +ℤ coord q) → ((b : Point) → K b → natAbs (coord b) ≤ r)
     → (n : ℕ) (b : Point) → fold K n b → natAbs (coord b) ≤ n * r
-fold-reach K coord r null add near zero b e = let h : natAbs (coord b) ≡ 0 = ap (λ p. natAbs (coord p)) e ∙ ap natAbs null in omega arith
+fold-reach K coord r null add near zero b e = let h : natAbs (coord b) ≡ 0 = ap (λ p. natAbs (coord p)) e ∙ ap natAbs null in
+    omega arith
 fold-reach K coord r null add near (suc n) b (c, d, hc, hd, e) =
     let h : natAbs (coord b) ≡ natAbs (coord c +ℤ coord d) = ap (λ p. natAbs (coord p)) e ∙ ap natAbs (add c d) in
     let f = near c hc in
@@ -60,14 +64,16 @@ times-fold K b h zero = refl
 times-fold K b h (suc n) = (b, times n b, h, times-fold K b h n, refl)
 
 -- n steps that change a coordinate change it by n at least
-module _ (coord : Point → ℤ) (null : coord origin ≡ pos 0) (add : (p q : Point) → coord (p ⊕ q) ≡ coord p +ℤ coord q) (b : Point) where
+module _ (coord : Point → ℤ) (null : coord origin ≡ pos 0) (add : (p q : Point) → coord (p ⊕ q) ≡ coord p +ℤ coord q)
+    (b : Point) where
   forward : (c : ℕ) → coord b ≡ pos (suc c) → (n : ℕ) → (m : ℕ) × (n ≤ m) × (coord (times n b) ≡ pos m)
   forward c e zero = (0, omega arith, null)
   forward c e (suc n) = let (m, l, f) = forward c e n in (suc c + m, omega arith, add b (times n b) ∙ ap₂ _+ℤ_ e f)
 
   backward : (c : ℕ) → coord b ≡ negsuc c → (n : ℕ) → (m : ℕ) × (n ≤ m) × (coord (times n b) ≡ negℤ (pos m))
   backward c e zero = (0, omega arith, null)
-  backward c e (suc n) = let (m, l, f) = backward c e n in (suc c + m, omega arith, add b (times n b) ∙ ap₂ _+ℤ_ e f ∙ sym (negℤ-+ℤ (pos (suc c)) (pos m)))
+  backward c e (suc n) = let (m, l, f) = backward c e n in
+      (suc c + m, omega arith, add b (times n b) ∙ ap₂ _+ℤ_ e f ∙ sym (negℤ-+ℤ (pos (suc c)) (pos m)))
 
   times-far : coord b ≢ pos 0 → (n u v : ℕ) → pos u +ℤ coord (times n b) ≡ pos v → n ≤ max u v
   times-far ne n u v e = signs (coord b) refl
@@ -80,11 +86,13 @@ module _ (coord : Point → ℤ) (null : coord origin ≡ pos 0) (add : (p q : P
           omega arith
       signs (negsuc c) f =
           let (m, l, g) = backward c f n in
-          let h : u ≡ v + m = pos-inj (sym (-ℤ-+ℤ-cancel (pos u) (pos m)) ∙ ap (λ z. z +ℤ pos m) (ap (λ z. pos u +ℤ z) (sym g) ∙ e)) in
+          let h : u ≡ v + m = pos-inj
+          (sym (-ℤ-+ℤ-cancel (pos u) (pos m)) ∙ ap (λ z. z +ℤ pos m) (ap (λ z. pos u +ℤ z) (sym g) ∙ e)) in
           omega arith
 
 -- as many steps as the larger side, by a point other than the origin, lead out of a frame
-pub leaves : (width height : ℕ) (b x : Point) → b ≢ origin → frame width height x → ¬ frame width height (x ⊕ times (max width height) b)
+pub leaves : (width height : ℕ) (b x : Point) → b ≢ origin → frame width height x
+    → ¬ frame width height (x ⊕ times (max width height) b)
 leaves width height b x ne (r, c, a, d, e) (r′, c′, a′, d′, e′) = cases (ℤ-discrete (b .row) (pos 0))
   where
     n : ℕ
@@ -95,4 +103,5 @@ leaves width height b x ne (r, c, a, d, e) (r′, c′, a′, d′, e′) = case
 
     cases : Dec (b .row ≡ pos 0) → ⊥
     cases (no f) = let l = times-far (λ p. p .row) refl (λ p q. refl) b f n r r′ (ap (λ p. p .row) end) in omega arith
-    cases (yes f) = let l = times-far (λ p. p .col) refl (λ p q. refl) b (λ h. ne (ap₂ at f h)) n c c′ (ap (λ p. p .col) end) in omega arith
+    cases (yes f) = let l = times-far (λ p. p .col) refl (λ p q. refl) b (λ h. ne (ap₂ at f h)) n c c′ (ap (λ p. p .col) end) in
+        omega arith

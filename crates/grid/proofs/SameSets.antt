@@ -5,7 +5,8 @@ use Prim.Native.Nat.{ℕ, zero, suc}
 use Rattle.grid.specs.Points.{Point}
 use Rattle.grid.specs.Sets.{PointSet, fold, eroded, dilated, opened, closed, _⊆_, _≈_}
 use Rattle.grid.specs.Levels.{IsLast, IsFirst}
-use Rattle.grid.specs.Starred.{Question, erosionLevels, openingLevels, dilationLevels, closingLevels, erodedBy, openedBy, IsPixel, IsAnswer}
+use Rattle.grid.specs.Starred.{Question, erosionLevels, openingLevels, dilationLevels, closingLevels, erodedBy, openedBy}
+use Rattle.grid.specs.Starred.{IsPixel, IsAnswer}
 use Rattle.grid.proofs.SetLaws.{dilate-parts, erode-parts}
 
 fold-parts : (K L : PointSet) → K ⊆ L → (n : ℕ) → fold K n ⊆ fold L n
@@ -38,14 +39,19 @@ last-same : {F G : ℕ → Type 0} {m : ℕ} → ((n : ℕ) → F n ↔ G n) →
 last-same same p = record { holds = λ k e. same k .0 (p .holds k e); above = λ j g. p .above j (same j .1 g) }
 
 first-same : {R : ℕ} {F G : ℕ → Type 0} {m : ℕ} → ((n : ℕ) → F n ↔ G n) → IsFirst R F m → IsFirst R G m
-first-same same p = record { capped = p .capped; holds = λ k e. same k .0 (p .holds k e); below = λ j l g. p .below j l (same j .1 g) }
+first-same same p = record {
+  capped = p .capped;
+  holds = λ k e. same k .0 (p .holds k e);
+  below = λ j l g. p .below j l (same j .1 g);
+}
 
 pixel-same : {P Q : Type 0} {v : ℕ} → P ↔ Q → IsPixel P v → IsPixel Q v
 pixel-same same (inl p) = inl (p .0, same .0 (p .1))
 pixel-same same (inr p) = inr (p .0, λ q. p .1 (same .1 q))
 
 -- EVERY ANSWER
-pub answer-same : {A B K L : PointSet} → A ≈ B → K ≈ L → (q : Question) (x : Point) (v : ℕ) → IsAnswer q A K x v → IsAnswer q B L x v
+pub answer-same : {A B K L : PointSet} → A ≈ B → K ≈ L → (q : Question) (x : Point) (v : ℕ) → IsAnswer q A K x v
+    → IsAnswer q B L x v
 answer-same same alike erosionLevels x v = last-same (λ n. let e = eroded-same same alike n in (e .0 x, e .1 x))
 answer-same same alike openingLevels x v = last-same (λ n. let e = opened-same same alike n in (e .0 x, e .1 x))
 answer-same same alike (dilationLevels R) x v = first-same (λ n. let e = dilated-same same alike n in (e .0 x, e .1 x))

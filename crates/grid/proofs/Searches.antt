@@ -1,5 +1,6 @@
 -- The sets that a sheet and an element give can be searched, so each question about sizes and levels has an answer.
--- A set can be searched where "all of its points" and "one of its points" can be decided; sums of such sets can be searched again.
+-- A set can be searched where "all of its points" and "one of its points" can be decided; sums of such sets can be searched
+-- again.
 use mathlib.Core.Path.{_≡_, refl, sym, _∙_, ap, ap₂, subst}
 use Prim.Native.Nat.{ℕ, zero, suc, _<_}
 use native.Mathlib.Decide.{ℕ-discrete, decLt}
@@ -86,7 +87,8 @@ dilate-searched {A} {B} s t =
           same-dec (λ f x h. subst P (sym (h .4)) (f (h .0) (h .2) (h .1) (h .3))) (λ f a ha b hb. f (a ⊕ b) (a, b, ha, hb, refl))
           (s .all (λ a. (b : Point) → B b → P (a ⊕ b)) (λ a. t .all (λ b. P (a ⊕ b)) (λ b. d (a ⊕ b))));
       any = λ P d.
-          same-dec (λ h. (h .0 ⊕ h .2 .0, (h .0, h .2 .0, h .1, h .2 .1, refl), h .2 .2)) (λ h. (h .1 .0, h .1 .2, (h .1 .1, h .1 .3, subst P (h .1 .4) (h .2))))
+          same-dec (λ h. (h .0 ⊕ h .2 .0, (h .0, h .2 .0, h .1, h .2 .1, refl), h .2 .2))
+          (λ h. (h .1 .0, h .1 .2, (h .1 .1, h .1 .3, subst P (h .1 .4) (h .2))))
           (s .any (λ a. (b : Point) × B b × P (a ⊕ b)) (λ a. t .any (λ b. P (a ⊕ b)) (λ b. d (a ⊕ b))));
     }
 
@@ -102,7 +104,8 @@ moved-searched {A} s c =
           same-dec (λ f b h. subst P (⊕-cancel b c) (f (b ⊕ c) h)) (λ f p h. f (p ⊕ neg c) (subst A (sym (⊖-cancel p c)) h))
           (s .all (λ p. P (p ⊕ neg c)) (λ p. d (p ⊕ neg c)));
       any = λ P d.
-          same-dec (λ h. (h .0 ⊕ neg c, subst A (sym (⊖-cancel (h .0) c)) (h .1), h .2)) (λ h. (h .0 ⊕ c, h .1, subst P (sym (⊕-cancel (h .0) c)) (h .2)))
+          same-dec (λ h. (h .0 ⊕ neg c, subst A (sym (⊖-cancel (h .0) c)) (h .1), h .2))
+          (λ h. (h .0 ⊕ c, h .1, subst P (sym (⊕-cancel (h .0) c)) (h .2)))
           (s .any (λ p. P (p ⊕ neg c)) (λ p. d (p ⊕ neg c)));
     }
 
@@ -112,7 +115,8 @@ erode-decided {A} d s x = s .all (λ b. A (x ⊕ b)) (λ b. d (x ⊕ b))
 
 unfoldable pub dilate-decided : {A B : PointSet} → Decided A → Searched B → Decided (dilate A B)
 dilate-decided {A} d s x =
-    same-dec (λ h. (x ⊕ neg (h .0), h .0, h .2, h .1, sym (⊖-cancel x (h .0)))) (λ h. (h .1, h .3, subst A (⊕-move x (h .0) (h .1) (h .4)) (h .2)))
+    same-dec (λ h. (x ⊕ neg (h .0), h .0, h .2, h .1, sym (⊖-cancel x (h .0))))
+    (λ h. (h .1, h .3, subst A (⊕-move x (h .0) (h .1) (h .4)) (h .2)))
     (s .any (λ b. A (x ⊕ neg b)) (λ b. d (x ⊕ neg b)))
 
 module _ {A K : PointSet} (d : Decided A) (s : Searched K) (n : ℕ) where
@@ -133,9 +137,11 @@ module _ (width height : ℕ) (cell : ℕ → ℕ → ℕ) where
   unfoldable pub figure-decided : Decided (figure width height cell)
   figure-decided x = go (x .row) (x .col)
     where
-      test : (r c : ℕ) → Dec (r < height) → Dec (c < width) → Dec (cell r c ≡ 1) → Dec (figure width height cell (at (pos r) (pos c)))
+      test : (r c : ℕ) → Dec (r < height) → Dec (c < width) → Dec (cell r c ≡ 1)
+          → Dec (figure width height cell (at (pos r) (pos c)))
       test r c (yes a) (yes b) (yes e) = yes (r, c, a, b, e, refl)
-      test r c (yes a) (yes b) (no n) = no (λ h. n (ap₂ cell (pos-inj (ap (λ p. p .row) (h .5))) (pos-inj (ap (λ p. p .col) (h .5))) ∙ h .4))
+      test r c (yes a) (yes b) (no n) =
+          no (λ h. n (ap₂ cell (pos-inj (ap (λ p. p .row) (h .5))) (pos-inj (ap (λ p. p .col) (h .5))) ∙ h .4))
       test r c (yes a) (no n) e = no (λ h. n (let i = pos-inj (ap (λ p. p .col) (h .5)) in let l = h .3 in omega arith))
       test r c (no n) b e = no (λ h. n (let i = pos-inj (ap (λ p. p .row) (h .5)) in let l = h .2 in omega arith))
 
@@ -148,18 +154,23 @@ module _ (width height : ℕ) (cell : ℕ → ℕ → ℕ) where
   figure-searched =
       record {
         all = λ P d.
-            same-dec (λ f x h. subst P (sym (h .5)) (f (h .0) (h .2) (h .1) (h .3) (h .4))) (λ f r a c b e. f (at (pos r) (pos c)) (r, c, a, b, e, refl))
+            same-dec (λ f x h. subst P (sym (h .5)) (f (h .0) (h .2) (h .1) (h .3) (h .4)))
+            (λ f r a c b e. f (at (pos r) (pos c)) (r, c, a, b, e, refl))
             (all-below height (λ r. (c : ℕ) → c < width → cell r c ≡ 1 → P (at (pos r) (pos c)))
-            (λ r. all-below width (λ c. cell r c ≡ 1 → P (at (pos r) (pos c))) (λ c. implies-dec (ℕ-discrete (cell r c) 1) (d (at (pos r) (pos c))))));
+            (λ r. all-below width (λ c. cell r c ≡ 1 → P (at (pos r) (pos c)))
+            (λ c. implies-dec (ℕ-discrete (cell r c) 1) (d (at (pos r) (pos c))))));
         any = λ P d.
             same-dec (λ h. let g = h .2 in (at (pos (h .0)) (pos (g .0)), (h .0, g .0, h .1, g .1, g .2 .0, refl), g .2 .1))
             (λ h. let g = h .1 in (g .0, g .2, (g .1, g .3, (g .4, subst P (g .5) (h .2)))))
             (any-below height (λ r. (c : ℕ) × (c < width) × ((cell r c ≡ 1) × P (at (pos r) (pos c))))
-            (λ r. any-below width (λ c. (cell r c ≡ 1) × P (at (pos r) (pos c))) (λ c. both-dec (ℕ-discrete (cell r c) 1) (d (at (pos r) (pos c))))));
+            (λ r. any-below width (λ c. (cell r c ≡ 1) × P (at (pos r) (pos c)))
+            (λ c. both-dec (ℕ-discrete (cell r c) 1) (d (at (pos r) (pos c))))));
       }
 
 unfoldable pub frame-decided : (width height : ℕ) → Decided (frame width height)
-frame-decided width height x = same-dec (λ h. (h .0, h .1, h .2, h .3, h .5)) (λ h. (h .0, h .1, h .2, h .3, refl, h .4)) (figure-decided width height (λ row col. 1) x)
+frame-decided width height x =
+    same-dec (λ h. (h .0, h .1, h .2, h .3, h .5)) (λ h. (h .0, h .1, h .2, h .3, refl, h .4))
+    (figure-decided width height (λ row col. 1) x)
 
 unfoldable pub element-searched : (side : ℕ) (cell : ℕ → ℕ → ℕ) → Searched (element side cell)
 element-searched side cell = moved-searched (figure-searched side side cell) (at (pos (reach side)) (pos (reach side)))

@@ -37,14 +37,22 @@ erode-by A B B′ g = erode-parts A A B B′ (λ p q. q) g
 
 pub dilate-regroup : (A B C : PointSet) → dilate (dilate A B) C ≈ dilate A (dilate B C)
 dilate-regroup A B C = (
-  (λ x h. let g = h .2 in (g .0, g .1 ⊕ h .1, g .2, (g .1, h .1, g .3, h .3, refl), h .4 ∙ ap (λ z. z ⊕ h .1) (g .4) ∙ ⊕-assoc (g .0) (g .1) (h .1))),
-  (λ x h. let g = h .3 in (h .0 ⊕ g .0, g .1, (h .0, g .0, h .2, g .2, refl), g .3, h .4 ∙ ap (λ z. h .0 ⊕ z) (g .4) ∙ sym (⊕-assoc (h .0) (g .0) (g .1)))),
+  (λ x h. let g = h .2 in
+      (g .0, g .1 ⊕ h .1, g .2, (g .1, h .1, g .3, h .3, refl), h .4 ∙ ap (λ z. z ⊕ h .1) (g .4) ∙ ⊕-assoc (g .0) (g .1) (h .1))),
+  (λ x h. let g = h .3 in (
+    h .0 ⊕ g .0,
+    g .1,
+    (h .0, g .0, h .2, g .2, refl),
+    g .3,
+    h .4 ∙ ap (λ z. h .0 ⊕ z) (g .4) ∙ sym (⊕-assoc (h .0) (g .0) (g .1)),
+  )),
 )
 
 -- eroding twice is eroding once by the sum
 pub erode-regroup : (A B C : PointSet) → erode (erode A B) C ≈ erode A (dilate B C)
 erode-regroup A B C = (
-  (λ x h d hd. subst A (⊕-swap x (hd .1) (hd .0) ∙ ⊕-assoc x (hd .0) (hd .1) ∙ ap (λ z. x ⊕ z) (sym (hd .4))) (h (hd .1) (hd .3) (hd .0) (hd .2))),
+  (λ x h d hd. subst A (⊕-swap x (hd .1) (hd .0) ∙ ⊕-assoc x (hd .0) (hd .1) ∙ ap (λ z. x ⊕ z) (sym (hd .4)))
+      (h (hd .1) (hd .3) (hd .0) (hd .2))),
   (λ x h c hc b hb. subst A (sym (⊕-assoc x b c) ∙ ⊕-swap x b c) (h (b ⊕ c) (b, c, hb, hc, refl))),
 )
 
@@ -93,8 +101,10 @@ fold-reflect K n = (to n, fro n)
 -- erosion and dilation compose on the infinite grid: by n and then by m is by n + m
 pub erosion-composes : (A K : PointSet) (n m : ℕ) → eroded (eroded A K n) K m ≈ eroded A K (n + m)
 erosion-composes A K n m = (
-  (λ x h. erode-by A (dilate (fold K n) (fold K m)) (fold K (n + m)) (fold-add K n m .0) x (erode-regroup A (fold K n) (fold K m) .0 x h)),
-  (λ x h. erode-regroup A (fold K n) (fold K m) .1 x (erode-by A (fold K (n + m)) (dilate (fold K n) (fold K m)) (fold-add K n m .1) x h)),
+  (λ x h. erode-by A (dilate (fold K n) (fold K m)) (fold K (n + m)) (fold-add K n m .0) x
+      (erode-regroup A (fold K n) (fold K m) .0 x h)),
+  (λ x h. erode-regroup A (fold K n) (fold K m) .1 x
+      (erode-by A (fold K (n + m)) (dilate (fold K n) (fold K m)) (fold-add K n m .1) x h)),
 )
 
 pub dilation-composes : (A K : PointSet) (n m : ℕ) → dilated (dilated A K n) K m ≈ dilated A K (n + m)
@@ -134,5 +144,6 @@ closed-grows A K m n h = le-ind (λ j. closed A K m ⊆ closed A K j) (λ x p. p
           q .0 ⊕ r .1,
           r .2,
           (q .0, r .1, q .2, r .3, refl),
-          ap (λ z. x ⊕ z) (q .4 ∙ ⊕-comm (q .0) (q .1)) ∙ sym (⊕-assoc x (q .1) (q .0)) ∙ ap (λ z. z ⊕ q .0) (r .4) ∙ ⊕-assoc (r .0) (r .1) (q .0) ∙ ap (λ z. r .0 ⊕ z) (⊕-comm (r .1) (q .0)),
+          ap (λ z. x ⊕ z) (q .4 ∙ ⊕-comm (q .0) (q .1)) ∙ sym (⊕-assoc x (q .1) (q .0)) ∙ ap (λ z. z ⊕ q .0) (r .4)
+              ∙ ⊕-assoc (r .0) (r .1) (q .0) ∙ ap (λ z. r .0 ⊕ z) (⊕-comm (r .1) (q .0)),
         )

@@ -1,5 +1,6 @@
 -- The starred cases hold of the definitions, by one test that is computed over the whole table.
--- A level is tested by two sizes alone: the one that it names is held and the next is not (or the one before, for dilation and closing), since the sets shrink or grow with the size.
+-- A level is tested by two sizes alone: the one that it names is held and the next is not (or the one before, for dilation and
+-- closing), since the sets shrink or grow with the size.
 use mathlib.Core.Path.{_≡_, subst}
 use mathlib.Core.Logic.{inl, inr}
 use mathlib.Core.List.{List, [], _∷_}
@@ -11,9 +12,14 @@ use Rattle.grid.specs.Points.{Point, at, origin, _⊕_}
 use Rattle.grid.specs.Sets.{PointSet, eroded, dilated, opened, closed}
 use Rattle.grid.specs.Levels.{IsLast, IsFirst}
 use Rattle.grid.specs.Figures.{reach}
-use Rattle.grid.specs.Starred.{drawn, Question, erosionLevels, openingLevels, dilationLevels, closingLevels, erodedBy, openedBy, IsPixel, IsAnswer, Case, foreground, shapeOf, AllHold, table, hook, clipped, ClippingMisses}
+use Rattle.grid.specs.Starred.{drawn, Question, erosionLevels, openingLevels, dilationLevels, closingLevels, erodedBy}
+use Rattle.grid.specs.Starred.{openedBy, IsPixel, IsAnswer, Case, figureOf, shapeOf, AllHold, table, hook, clipped}
+use Rattle.grid.specs.Starred.{ClippingMisses}
 use Rattle.grid.proofs.SetLaws.{eroded-shrinks, dilated-grows, opened-shrinks, closed-grows}
-use Rattle.grid.proofs.Searches.{Yes, by-test, Decided, Searched, all-below, any-below, not-dec, both-dec, implies-dec, same-dec, origin-searched, dilate-searched, fold-searched, moved-searched, erode-decided, dilate-decided, eroded-decided, dilated-decided, opened-decided, closed-decided, frame-decided, figure-decided, figure-searched, element-searched}
+use Rattle.grid.proofs.Searches.{Yes, by-test, Decided, Searched, all-below, any-below, not-dec, both-dec, implies-dec}
+use Rattle.grid.proofs.Searches.{same-dec, origin-searched, dilate-searched, fold-searched, moved-searched, erode-decided}
+use Rattle.grid.proofs.Searches.{dilate-decided, eroded-decided, dilated-decided, opened-decided, closed-decided}
+use Rattle.grid.proofs.Searches.{frame-decided, figure-decided, figure-searched, element-searched}
 
 -- the two sizes that show a level
 LastAt : (ℕ → Type 0) → ℕ → Type 0
@@ -29,7 +35,8 @@ module _ (F : ℕ → Type 0) where
   last-at : ((i j : ℕ) → i ≤ j → F j → F i) → (m : ℕ) → LastAt F m → IsLast F m
   unfolding LastAt
   last-at falls zero n = record { holds = λ k e. absurd (omega arith); above = λ j h. absurd (n (falls zero j (omega arith) h)) }
-  last-at falls (suc m) p = record { holds = λ k e. subst F (let q : m ≡ k = omega arith in q) (p .0); above = λ j h. above j h (decLt j (suc m)) }
+  last-at falls (suc m) p =
+      record { holds = λ k e. subst F (let q : m ≡ k = omega arith in q) (p .0); above = λ j h. above j h (decLt j (suc m)) }
     where
       above : (j : ℕ) → F j → Dec (j < suc m) → j < suc m
       above j h (yes l) = l
@@ -37,8 +44,14 @@ module _ (F : ℕ → Type 0) where
 
   first-at : ((i j : ℕ) → i ≤ j → F i → F j) → (R m : ℕ) → FirstAt R F m → IsFirst R F m
   unfolding FirstAt
-  first-at grows R zero n = record { capped = omega arith; holds = λ k e. absurd (omega arith); below = λ j l h. absurd (n (grows j R l h)) }
-  first-at grows R (suc zero) h = record { capped = omega arith; holds = λ k e. subst F (let q : zero ≡ k = omega arith in q) h; below = λ j l g. (omega arith, omega arith) }
+  first-at grows R zero n =
+      record { capped = omega arith; holds = λ k e. absurd (omega arith); below = λ j l h. absurd (n (grows j R l h)) }
+  first-at grows R (suc zero) h =
+      record {
+        capped = omega arith;
+        holds = λ k e. subst F (let q : zero ≡ k = omega arith in q) h;
+        below = λ j l g. (omega arith, omega arith);
+      }
   first-at grows R (suc (suc m)) p =
       let c = p .0 in
       record {
@@ -104,7 +117,9 @@ module _ (A K : PointSet) (x : Point) (v : ℕ) where
 
 -- the whole table
 CaseTested : Case → Type 0
-CaseTested c = shapeOf c origin × ((row : ℕ) → row < c .height → (col : ℕ) → col < c .width → Tested (c .question) (foreground c) (shapeOf c) (at (pos row) (pos col)) (drawn (c .expected) row col))
+CaseTested c = shapeOf c origin ×
+    ((row : ℕ) → row < c .height → (col : ℕ) → col < c .width
+    → Tested (c .question) (figureOf c) (shapeOf c) (at (pos row) (pos col)) (drawn (c .expected) row col))
 
 AllTested : List Case → Type 0
 AllTested [] = Unit {0}
@@ -113,16 +128,22 @@ AllTested (c ∷ cases) = CaseTested c × AllTested cases
 all-hold : (cases : List Case) → AllTested cases → AllHold cases
 unfolding AllTested CaseTested
 all-hold [] t = tt
-all-hold (c ∷ cases) t =
-    ((λ row a col b. answered (foreground c) (shapeOf c) (at (pos row) (pos col)) (drawn (c .expected) row col) (c .question) (t .0 .0) (t .0 .1 row a col b)), all-hold cases (t .1))
+all-hold (c ∷ cases) t = (
+  (λ row a col b. answered (figureOf c) (shapeOf c) (at (pos row) (pos col)) (drawn (c .expected) row col) (c .question)
+      (t .0 .0) (t .0 .1 row a col b)),
+  all-hold cases (t .1),
+)
 
 case-dec : (c : Case) → Dec (CaseTested c)
 unfolding CaseTested
 case-dec c =
     both-dec (figure-decided 3 3 (drawn (c .shape)) (origin ⊕ at (pos (reach 3)) (pos (reach 3))))
-    (all-below (c .height) (λ row. (col : ℕ) → col < c .width → Tested (c .question) (foreground c) (shapeOf c) (at (pos row) (pos col)) (drawn (c .expected) row col))
-    (λ row. all-below (c .width) (λ col. Tested (c .question) (foreground c) (shapeOf c) (at (pos row) (pos col)) (drawn (c .expected) row col))
-    (λ col. tested-dec (foreground c) (shapeOf c) (at (pos row) (pos col)) (drawn (c .expected) row col) (c .question) (figure-decided (c .width) (c .height) (drawn (c .sheet))) (element-searched 3 (drawn (c .shape))))))
+    (all-below (c .height) (λ row. (col : ℕ) → col < c .width
+    → Tested (c .question) (figureOf c) (shapeOf c) (at (pos row) (pos col)) (drawn (c .expected) row col))
+    (λ row. all-below (c .width)
+    (λ col. Tested (c .question) (figureOf c) (shapeOf c) (at (pos row) (pos col)) (drawn (c .expected) row col))
+    (λ col. tested-dec (figureOf c) (shapeOf c) (at (pos row) (pos col)) (drawn (c .expected) row col) (c .question)
+    (figure-decided (c .width) (c .height) (drawn (c .sheet))) (element-searched 3 (drawn (c .shape))))))
 
 all-dec : (cases : List Case) → Dec (AllTested cases)
 unfolding AllTested
@@ -146,7 +167,8 @@ misses-dec : Dec ClippingMisses
 misses-dec =
     let A = figure-decided 1 2 (drawn ((1 ∷ []) ∷ (0 ∷ []) ∷ [])) in
     let K = element-searched 3 (drawn hook) in
-    both-dec (dilated-decided A K 2 (at (pos 1) (pos 0))) (not-dec (clipped-decided (dilate-decided (clipped-decided (dilate-decided A K)) K) (at (pos 1) (pos 0))))
+    both-dec (dilated-decided A K 2 (at (pos 1) (pos 0)))
+    (not-dec (clipped-decided (dilate-decided (clipped-decided (dilate-decided A K)) K) (at (pos 1) (pos 0))))
 
 pub clipping-misses : ClippingMisses
 unfolding Yes misses-dec clipped-decided any-below not-dec both-dec same-dec origin-searched dilate-searched fold-searched moved-searched dilate-decided dilated-decided frame-decided figure-decided figure-searched element-searched ℕ-discrete decLt

@@ -1,4 +1,5 @@
--- Document 01's small sheets worked by hand, those marked * : one table, proved in proofs/Starred.antt to hold of the definitions.
+-- Document 01's small sheets worked by hand, those marked * : one table, proved in proofs/Starred.antt to hold of the
+-- definitions.
 -- Sheets, elements and answers are drawn row by row; an element's origin is at the centre of its square.
 use mathlib.Core.Path.{_≡_}
 use mathlib.Core.Logic.{_⊎_}
@@ -45,15 +46,16 @@ pub record Case : Type 0 where
   pub expected : Drawing
 
 -- every element of the table is drawn in a square of side 3
-abbrev pub foreground : Case → PointSet
-foreground c = figure (c .width) (c .height) (drawn (c .sheet))
+abbrev pub figureOf : Case → PointSet
+figureOf c = figure (c .width) (c .height) (drawn (c .sheet))
 
 abbrev pub shapeOf : Case → PointSet
 shapeOf c = element 3 (drawn (c .shape))
 
 -- the expected answers are right at every point of the frame
 abbrev pub Holds : Case → Type 0
-Holds c = (row : ℕ) → row < c .height → (col : ℕ) → col < c .width → IsAnswer (c .question) (foreground c) (shapeOf c) (at (pos row) (pos col)) (drawn (c .expected) row col)
+Holds c = (row : ℕ) → row < c .height → (col : ℕ) → col < c .width
+    → IsAnswer (c .question) (figureOf c) (shapeOf c) (at (pos row) (pos col)) (drawn (c .expected) row col)
 
 abbrev pub AllHold : List Case → Type 0
 AllHold [] = Unit {0}
@@ -156,4 +158,5 @@ hookSet = element 3 (drawn hook)
 
 abbrev pub ClippingMisses : Type 0
 ClippingMisses =
-    dilated column hookSet 2 (at (pos 1) (pos 0)) × ¬ clipped 1 2 (dilate (clipped 1 2 (dilate column hookSet)) hookSet) (at (pos 1) (pos 0))
+    dilated column hookSet 2 (at (pos 1) (pos 0)) ×
+    ¬ clipped 1 2 (dilate (clipped 1 2 (dilate column hookSet)) hookSet) (at (pos 1) (pos 0))

@@ -1,5 +1,6 @@
 -- From the library's answers to the boundary's: the boundary's own refusals stand among the library's, so where they do not apply
--- the number is the library's, and where one does it takes its place among them. The values beside the number go to the answer slices.
+-- the number is the library's, and where one does it takes its place among them. The values beside the number go to the answer
+-- slices.
 use Prim.Native.Nat.{ℕ, _≤_}
 use native.Mathlib.Decide.{ℕ-discrete}
 use native.Mathlib.Omega.{arith}
@@ -23,7 +24,8 @@ module _ {A B : Type 0} {L M : List Refusal} {keptA : A} {keptB : B} {RightA : A
   pub carried-answer : n ≡ 0 → (y : B) → (RightA x → RightB y) → Answers M keptB RightB 0 y
   carried-answer z y k = accepts y (e ∙ sym (p .refusal) ∙ z) (k (p .accepted z))
 
-pub carried : {A : Type 0} {L M : List Refusal} {kept : A} {Right : A → Type 0} {n : ℕ} {x : A} → Answers L kept Right n x → first M ≡ first L → Answers M kept Right n x
+pub carried : {A : Type 0} {L M : List Refusal} {kept : A} {Right : A → Type 0} {n : ℕ} {x : A} → Answers L kept Right n x
+    → first M ≡ first L → Answers M kept Right n x
 carried p e = record { refusal = p .refusal ∙ sym e; accepted = p .accepted; refused = p .refused }
 
 -- an answer slice after all other refusals
@@ -48,7 +50,8 @@ lower-first : (xs : List Refusal) → T (upToEleven xs) → first xs ≤ 11
 lower-first [] t = omega arith
 lower-first (r ∷ xs) t = go (leb (r .0) 11) (r .1) refl t (lower-first xs)
   where
-    go : (a b : Bool) → leb (r .0) 11 ≡ a → T (a && upToEleven xs) → (T (upToEleven xs) → first xs ≤ 11) → cond b (r .0) (first xs) ≤ 11
+    go : (a b : Bool) → leb (r .0) 11 ≡ a → T (a && upToEleven xs) → (T (upToEleven xs) → first xs ≤ 11)
+        → cond b (r .0) (first xs) ≤ 11
     go true true e t ih = leb-true (r .0) 11 e
     go true false e t ih = ih t
     go false b e t ih = absurd t
@@ -57,7 +60,8 @@ higher-first : (ys : List Refusal) → T (aboveEleven ys) → atLatest (first ys
 higher-first [] t = refl
 higher-first (r ∷ ys) t = go (ltb 11 (r .0)) (r .1) refl t (higher-first ys)
   where
-    go : (a b : Bool) → ltb 11 (r .0) ≡ a → T (a && aboveEleven ys) → (T (aboveEleven ys) → atLatest (first ys) ≡ 11) → atLatest (cond b (r .0) (first ys)) ≡ 11
+    go : (a b : Bool) → ltb 11 (r .0) ≡ a → T (a && aboveEleven ys) → (T (aboveEleven ys) → atLatest (first ys) ≡ 11)
+        → atLatest (cond b (r .0) (first ys)) ≡ 11
     go true true e t ih = let l = ltb-true 11 (r .0) e in rw (ne-eqb (r .0) 0 (λ z. absurd (omega arith)), e)
     go true false e t ih = ih t
     go false b e t ih = absurd t
@@ -81,8 +85,11 @@ module _ (xs ys : List Refusal) (t : T (numbered xs)) (lower : T (upToEleven xs)
           kept : first xs ≢ 0 → atLatest (first xs) ≡ first xs
           kept n = rw (ne-eqb (first xs) 0 n, le-ltb 11 (first xs) (lower-first xs lower))
 
-  pub latest-refuses : {A : Type 0} {kept : A} {Right : A → Type 0} (refusals : List Refusal) → first refusals ≡ first (xs ++ (11, true) ∷ ys) → {number n : ℕ} → number ≡ atLatest n → n ≡ first (xs ++ ys) → Answers refusals kept Right number kept
-  latest-refuses refusals same {number} {n} a e = refuses number (λ z. latest-some n (sym a ∙ z)) (a ∙ ap atLatest e ∙ eleven-between ∙ sym same)
+  pub latest-refuses : {A : Type 0} {kept : A} {Right : A → Type 0} (refusals : List Refusal)
+      → first refusals ≡ first (xs ++ (11, true) ∷ ys) → {number n : ℕ} → number ≡ atLatest n → n ≡ first (xs ++ ys)
+      → Answers refusals kept Right number kept
+  latest-refuses refusals same {number} {n} a e =
+      refuses number (λ z. latest-some n (sym a ∙ z)) (a ∙ ap atLatest e ∙ eleven-between ∙ sym same)
 
 -- an answer slice of another length beside a room: whatever the room, 11 is the last number that is left
 module _ (L : List Refusal) (t : T (numbered L)) (short : Bool) where

@@ -16,10 +16,12 @@ use Rattle.run.specs.Continuing.{levelsWrong, continueRefusals, Continues}
 use Rattle.run.specs.Pictures.{Collects, Thresholds}
 use Rattle.harness.specs.Boundary.{wordsOf, recordOf, holdsNoRecord, wordsRefusal, answerRefusal, atEleven, atLatest}
 use Rattle.harness.specs.Runs.{flag, continueWords, ContinuesWords, CollectsWords, ThresholdsWords}
-use Rattle.harness.proofs.AnswerLaws.{upToEleven, latest-refuses, carried, carried-refusal, carried-answer, answer-fits, one-stored}
+use Rattle.harness.proofs.AnswerLaws.{upToEleven, latest-refuses, carried, carried-refusal, carried-answer, answer-fits}
+use Rattle.harness.proofs.AnswerLaws.{one-stored}
 
 -- STARTING: the record goes into the words
-module _ (refusals : List Refusal) (t : T (numbered refusals)) (levels words : List ℕ) (a : length words ≡ 55) {begun : Record} {started : List ℕ} (n : ℕ) (run : Record) (after : List ℕ)
+module _ (refusals : List Refusal) (t : T (numbered refusals)) (levels words : List ℕ)
+    (a : length words ≡ 55) {begun : Record} {started : List ℕ} (n : ℕ) (run : Record) (after : List ℕ)
     (p : Answers {A = Record × List ℕ} refusals (noRecord, levels) (λ x. x ≡ (begun, started)) n (run, after)) where
   abbrev StartsWords : ℕ → List ℕ × List ℕ → Type 0
   StartsWords = Answers (refusals ++ answerRefusal 55 words ∷ []) (levels, words) (λ x. x ≡ (started, wordsOf begun))
@@ -28,12 +30,20 @@ module _ (refusals : List Refusal) (t : T (numbered refusals)) (levels words : L
   start-refuses z = carried-refusal p (answer-fits refusals t 55 words a) z (after, words) (λ q. ap (λ x. (x .1, words)) q)
 
   pub start-accepts : n ≡ 0 → (next : List ℕ) → next ≡ wordsOf run → StartsWords 0 (after, next)
-  start-accepts z next e = carried-answer p (answer-fits refusals t 55 words a) z (after, next) (λ q. rw e (ap (λ x. (x .1, wordsOf (x .0))) q))
+  start-accepts z next e =
+      carried-answer p (answer-fits refusals t 55 words a) z (after, next) (λ q. rw e (ap (λ x. (x .1, wordsOf (x .0))) q))
 
 -- and where the words are of another length
-pub start-other : (refusals : List Refusal) → T (numbered refusals) → T (upToEleven refusals) → (levels words : List ℕ) {begun : Record} {started : List ℕ} → length words ≢ 55 → {number n : ℕ} → number ≡ atLatest n → n ≡ first refusals
-    → Answers {A = List ℕ × List ℕ} (refusals ++ answerRefusal 55 words ∷ []) (levels, words) (λ x. x ≡ (started, wordsOf begun)) number (levels, words)
-start-other refusals t u levels words a e f = latest-refuses refusals [] t u tt (refusals ++ answerRefusal 55 words ∷ []) (rw (ne-eqb (length words) 55 a)) e (f ∙ ap first (sym (append-nil refusals)))
+pub start-other : (refusals : List Refusal) → T (numbered refusals) → T (upToEleven refusals)
+    → (levels words : List ℕ) {begun : Record} {started : List ℕ} → length words ≢ 55 → {number n : ℕ} → number ≡ atLatest n
+    → n ≡ first refusals
+    → Answers {A = List ℕ × List ℕ} (refusals ++ answerRefusal 55 words ∷ []) (
+      levels,
+      words,
+    ) (λ x. x ≡ (started, wordsOf begun)) number (levels, words)
+start-other refusals t u levels words a e f =
+    latest-refuses refusals [] t u tt (refusals ++ answerRefusal 55 words ∷ []) (rw (ne-eqb (length words) 55 a)) e
+    (f ∙ ap first (sym (append-nil refusals)))
 
 -- CONTINUING
 module _ (words levels : List ℕ) (allowance : ℕ) (done : List ℕ) where
@@ -41,32 +51,47 @@ module _ (words levels : List ℕ) (allowance : ℕ) (done : List ℕ) where
   continue-words h = refuses 1 (λ q. absurd (omega arith)) (rw h)
 
   module _ (h : holdsNoRecord words ≡ false) (run : Record) (q : run ≡ recordOf words) where
-    pub continue-other : length done ≢ 1 → {number n : ℕ} → number ≡ atLatest n → n ≡ first (continueRefusals run levels allowance) → ContinuesWords words levels allowance done number (words, levels, done)
+    pub continue-other : length done ≢ 1 → {number n : ℕ} → number ≡ atLatest n
+        → n ≡ first (continueRefusals run levels allowance)
+        → ContinuesWords words levels allowance done number (words, levels, done)
     continue-other a e f =
-        latest-refuses ((1, recordBad (recordOf words)) ∷ (10, levelsWrong (recordOf words) levels) ∷ []) ((12, ltb 8192 allowance) ∷ []) tt tt tt
-        (wordsRefusal words ∷ atEleven (answerRefusal 1 done) (continueRefusals (recordOf words) levels allowance)) (rw (h, ne-eqb (length done) 1 a)) e (f ∙ ap (λ r. first (continueRefusals r levels allowance)) q)
+        latest-refuses ((1, recordBad (recordOf words)) ∷ (10, levelsWrong (recordOf words) levels) ∷ [])
+        ((12, ltb 8192 allowance) ∷ []) tt tt tt
+        (wordsRefusal words ∷ atEleven (answerRefusal 1 done) (continueRefusals (recordOf words) levels allowance))
+        (rw (h, ne-eqb (length done) 1 a)) e (f ∙ ap (λ r. first (continueRefusals r levels allowance)) q)
 
-    module _ (a : length done ≡ 1) (n : ℕ) (next : Record) (all : Bool) (after : List ℕ) (p : Continues run levels allowance n (next, all, after)) where
-      continue-fits : first (wordsRefusal words ∷ atEleven (answerRefusal 1 done) (continueRefusals (recordOf words) levels allowance)) ≡ first (continueRefusals (recordOf words) levels allowance)
+    module _ (a : length done ≡ 1) (n : ℕ) (next : Record) (all : Bool) (after : List ℕ)
+        (p : Continues run levels allowance n (next, all, after)) where
+      continue-fits : first (wordsRefusal words ∷
+          atEleven (answerRefusal 1 done) (continueRefusals (recordOf words) levels allowance))
+          ≡ first (continueRefusals (recordOf words) levels allowance)
       continue-fits = rw (h, eq-eqb (length done) 1 a)
 
       pub continue-refuses : n ≢ 0 → ContinuesWords words levels allowance done n (words, after, done)
       continue-refuses z = carried-refusal (rw q at p) continue-fits z (words, after, done) (λ e. ap (λ x. (words, x .2, done)) e)
 
-      pub continue-accepts : n ≡ 0 → (written : List ℕ) → written ≡ wordsOf next → (v : ℕ) → v ≡ flag all → ContinuesWords words levels allowance done 0 (written, after, set done 0 v)
-      continue-accepts z written w v f = carried-answer (rw q at p) continue-fits z (written, after, set done 0 v) (λ e. rw (w, one-stored done v a, f) (ap continueWords e))
+      pub continue-accepts : n ≡ 0 → (written : List ℕ) → written ≡ wordsOf next → (v : ℕ) → v ≡ flag all
+          → ContinuesWords words levels allowance done 0 (written, after, set done 0 v)
+      continue-accepts z written w v f =
+          carried-answer (rw q at p) continue-fits z (
+            written,
+            after,
+            set done 0 v,
+          ) (λ e. rw (w, one-stored done v a, f) (ap continueWords e))
 
 -- COLLECTING AND THRESHOLDING
 module _ (words levels out : List ℕ) where
   pub collect-words : holdsNoRecord words ≡ true → CollectsWords words levels out 1 out
   collect-words h = refuses 1 (λ q. absurd (omega arith)) (rw h)
 
-  pub collect-answers : holdsNoRecord words ≡ false → (run : Record) → run ≡ recordOf words → (n : ℕ) (after : List ℕ) → Collects run levels out n after → CollectsWords words levels out n after
+  pub collect-answers : holdsNoRecord words ≡ false → (run : Record) → run ≡ recordOf words → (n : ℕ) (after : List ℕ)
+      → Collects run levels out n after → CollectsWords words levels out n after
   collect-answers h run q n after p = carried (rw q at p) (rw h)
 
 module _ (words levels : List ℕ) (size : ℕ) (out : List ℕ) where
   pub threshold-words : holdsNoRecord words ≡ true → ThresholdsWords words levels size out 1 out
   threshold-words h = refuses 1 (λ q. absurd (omega arith)) (rw h)
 
-  pub threshold-answers : holdsNoRecord words ≡ false → (run : Record) → run ≡ recordOf words → (n : ℕ) (after : List ℕ) → Thresholds run levels size out n after → ThresholdsWords words levels size out n after
+  pub threshold-answers : holdsNoRecord words ≡ false → (run : Record) → run ≡ recordOf words → (n : ℕ) (after : List ℕ)
+      → Thresholds run levels size out n after → ThresholdsWords words levels size out n after
   threshold-answers h run q n after p = carried (rw q at p) (rw h)

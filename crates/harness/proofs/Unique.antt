@@ -2,39 +2,47 @@
 use Prim.Native.Nat.{ℕ}
 use mathlib.Core.Path.{_≡_, sym, _∙_}
 use mathlib.Core.List.{List}
-use Rattle.basics.proofs.RefusalLaws.{answers-unique}
+use Rattle.basics.proofs.RefusalLaws.{rule-unique}
 use Rattle.element.specs.Reflect.{Reflects}
 use Rattle.harness.specs.Files.{ReadsSheet, WritesSheet, WritesPicture}
 use Rattle.harness.specs.Runs.{StartsErosionWords, StartsDilationWords, ContinuesWords, CollectsWords, ThresholdsWords}
 
 module _ (m n : ℕ) where
-  pub reflect-unique : (side : ℕ) (cells out x y : List ℕ) → Reflects side cells out m x → Reflects side cells out n y → (m ≡ n) × (x ≡ y)
-  reflect-unique side cells out x y = answers-unique (λ x y p q. p ∙ sym q) m n x y
+  pub reflect-unique : (side : ℕ) (cells out x y : List ℕ) → Reflects side cells out m x → Reflects side cells out n y
+      → (m ≡ n) × (x ≡ y)
+  reflect-unique side cells out x y = rule-unique m n x y
 
-  pub collect-unique : (words levels out x y : List ℕ) → CollectsWords words levels out m x → CollectsWords words levels out n y → (m ≡ n) × (x ≡ y)
-  collect-unique words levels out x y = answers-unique (λ x y p q. p ∙ sym q) m n x y
+  pub collect-unique : (words levels out x y : List ℕ) → CollectsWords words levels out m x → CollectsWords words levels out n y
+      → (m ≡ n) × (x ≡ y)
+  collect-unique words levels out x y = rule-unique m n x y
 
-  pub threshold-unique : (words levels : List ℕ) (size : ℕ) (out x y : List ℕ) → ThresholdsWords words levels size out m x → ThresholdsWords words levels size out n y → (m ≡ n) × (x ≡ y)
-  threshold-unique words levels size out x y = answers-unique (λ x y p q. p ∙ sym q) m n x y
+  pub threshold-unique : (words levels : List ℕ) (size : ℕ) (out x y : List ℕ) → ThresholdsWords words levels size out m x
+      → ThresholdsWords words levels size out n y → (m ≡ n) × (x ≡ y)
+  threshold-unique words levels size out x y = rule-unique m n x y
 
   pub continue-unique : (words levels : List ℕ) (allowance : ℕ) (done : List ℕ) (x y : List ℕ × List ℕ × List ℕ)
       → ContinuesWords words levels allowance done m x → ContinuesWords words levels allowance done n y → (m ≡ n) × (x ≡ y)
-  continue-unique words levels allowance done x y = answers-unique (λ x y p q. p ∙ sym q) m n x y
+  continue-unique words levels allowance done x y = rule-unique m n x y
 
   module _ (x y : List ℕ × List ℕ) where
-    pub read-pbm-unique : (file out frame : List ℕ) → ReadsSheet file out frame m x → ReadsSheet file out frame n y → (m ≡ n) × (x ≡ y)
-    read-pbm-unique file out frame = answers-unique (λ x y p q. p ∙ sym q) m n x y
+    pub read-pbm-unique : (file out frame : List ℕ) → ReadsSheet file out frame m x → ReadsSheet file out frame n y
+        → (m ≡ n) × (x ≡ y)
+    read-pbm-unique file out frame = rule-unique m n x y
 
-    pub write-pbm-unique : (width height : ℕ) (sheet out answer : List ℕ) → WritesSheet width height sheet out answer m x → WritesSheet width height sheet out answer n y → (m ≡ n) × (x ≡ y)
-    write-pbm-unique width height sheet out answer = answers-unique (λ x y p q. p ∙ sym q) m n x y
+    pub write-pbm-unique : (width height : ℕ) (sheet out answer : List ℕ) → WritesSheet width height sheet out answer m x
+        → WritesSheet width height sheet out answer n y → (m ≡ n) × (x ≡ y)
+    write-pbm-unique width height sheet out answer = rule-unique m n x y
 
-    pub write-pgm-unique : (words levels out answer : List ℕ) → WritesPicture words levels out answer m x → WritesPicture words levels out answer n y → (m ≡ n) × (x ≡ y)
-    write-pgm-unique words levels out answer = answers-unique (λ x y p q. p ∙ sym q) m n x y
+    pub write-pgm-unique : (words levels out answer : List ℕ) → WritesPicture words levels out answer m x
+        → WritesPicture words levels out answer n y → (m ≡ n) × (x ≡ y)
+    write-pgm-unique words levels out answer = rule-unique m n x y
 
     pub start-erosion-unique : (width height : ℕ) (sheet : List ℕ) (side : ℕ) (cells levels words : List ℕ)
-        → StartsErosionWords width height sheet side cells levels words m x → StartsErosionWords width height sheet side cells levels words n y → (m ≡ n) × (x ≡ y)
-    start-erosion-unique width height sheet side cells levels words = answers-unique (λ x y p q. p ∙ sym q) m n x y
+        → StartsErosionWords width height sheet side cells levels words m x
+        → StartsErosionWords width height sheet side cells levels words n y → (m ≡ n) × (x ≡ y)
+    start-erosion-unique width height sheet side cells levels words = rule-unique m n x y
 
     pub start-dilation-unique : (width height : ℕ) (sheet : List ℕ) (side : ℕ) (cells : List ℕ) (cap : ℕ) (levels words : List ℕ)
-        → StartsDilationWords width height sheet side cells cap levels words m x → StartsDilationWords width height sheet side cells cap levels words n y → (m ≡ n) × (x ≡ y)
-    start-dilation-unique width height sheet side cells cap levels words = answers-unique (λ x y p q. p ∙ sym q) m n x y
+        → StartsDilationWords width height sheet side cells cap levels words m x
+        → StartsDilationWords width height sheet side cells cap levels words n y → (m ≡ n) × (x ≡ y)
+    start-dilation-unique width height sheet side cells cap levels words = rule-unique m n x y

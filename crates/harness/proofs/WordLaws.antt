@@ -12,25 +12,18 @@ use lib.Dec.{eqb, ltb}
 use lib.ListN.{length, getD, take, drop, set, length-set, length-drop, drop-of-length-le}
 use lib.Seq.{getD-drop, take-all, paste, paste-zero, paste-suc, sets-eq}
 use borrow.Author.Tests.{lt-ltb, le-ltb, eq-eqb, ne-eqb, eqb-true, ltb-false, not-false}
+use Rattle.basics.proofs.BoundLaws.{neither, all-within}
+use Rattle.basics.specs.Bounds.{anyAbove}
 use Rattle.basics.specs.Tables.{table}
 use Rattle.basics.proofs.TableLaws.{table-is}
 use Rattle.run.specs.declared.Record.{Record}
-use Rattle.element.specs.Elements.{anyAboveOne}
 use Rattle.run.specs.Records.{recordBad}
-use Rattle.run.proofs.RecordLaws.{neither, sound, not-bad}
-use Rattle.pgm.specs.WritePgm.{anyAbove}
+use Rattle.run.proofs.RecordLaws.{sound, not-bad}
 use Rattle.harness.specs.Boundary.{wordsOf, recordOf, holdsNoRecord}
 
 -- WHAT IS WRITTEN IS READ
 pub read-written : (r : Record) → recordOf (wordsOf r) ≡ r
 read-written r = refl
-
--- where no entry is above a limit, none is
-pub none-above : (limit : ℕ) (l : List ℕ) (i : ℕ) → anyAbove limit l ≡ false → i < length l → getD l i 0 ≤ limit
-unfolding anyAbove
-none-above limit [] i e h = absurd (omega arith)
-none-above limit (x ∷ l) zero e h = ltb-false limit x (neither (ltb limit x) (anyAbove limit l) e .0)
-none-above limit (x ∷ l) (suc i) e h = none-above limit l i (neither (ltb limit x) (anyAbove limit l) e .1) (omega arith)
 
 module _ (words : List ℕ) where
   -- the tests on the words
@@ -69,21 +62,30 @@ module _ (words : List ℕ) where
     cells-length = let d = length-drop 6 words in let s = record-length in omega arith
 
     pub record-cell : (k : ℕ) → k < 49 → getD words (6 + k) 0 ≤ 255
-    record-cell k l = let s = cells-length in rw (← getD-drop 6 words k 0) (none-above 255 (drop 6 words) k (parts .1) (omega arith))
+    record-cell k l = let s = cells-length in
+        rw (← getD-drop 6 words k 0) (all-within 255 (drop 6 words) k (parts .1) (omega arith))
 
     pub record-cells : drop 6 words ≡ table 49 (λ k. getD words (6 + k) 0)
     record-cells = table-is (λ k. getD words (6 + k) 0) 49 0 (drop 6 words) cells-length (λ k l. getD-drop 6 words k 0)
 
     pub record-is : (cells : List ℕ) (kind : ℕ) → cells ≡ drop 6 words → kind ≡ getD words 0 0
-        → record { kind = kind; width = getD words 1 0; height = getD words 2 0; cap = getD words 3 0; side = getD words 4 0; rows = getD words 5 0; cells = cells } ≡ recordOf words
+        → record {
+          kind = kind;
+          width = getD words 1 0;
+          height = getD words 2 0;
+          cap = getD words 3 0;
+          side = getD words 4 0;
+          rows = getD words 5 0;
+          cells = cells;
+        } ≡ recordOf words
     record-is cells kind e f = rw (e, f)
 
 -- A SOUND RECORD IS HELD: the words of a record that the library takes are never refused for themselves
-narrow : (cells : List ℕ) → anyAboveOne cells ≡ false → anyAbove 255 cells ≡ false
-unfolding anyAboveOne anyAbove
+narrow : (cells : List ℕ) → anyAbove 1 cells ≡ false → anyAbove 255 cells ≡ false
+unfolding anyAbove
 narrow [] e = refl
 narrow (x ∷ l) e =
-    let f = neither (ltb 1 x) (anyAboveOne l) e in
+    let f = neither (ltb 1 x) (anyAbove 1 l) e in
     let b = ltb-false 1 x (f .0) in
     rw (le-ltb 255 x (let h : x ≤ 255 = omega arith in h)) (narrow l (f .1))
 
@@ -91,7 +93,10 @@ pub sound-held : (r : Record) → length (r .cells) ≡ 49 → recordBad r ≡ f
 unfolding holdsNoRecord
 sound-held r l e =
     let s = sound r (not-bad r e .0) in
-    rw (eq-eqb (length (wordsOf r)) 55 (let h : length (wordsOf r) ≡ 55 = omega arith in h), le-ltb 255 (r .kind) (kind-small (s .kind-is))) (narrow (r .cells) (s .binary))
+    rw (
+      eq-eqb (length (wordsOf r)) 55 (let h : length (wordsOf r) ≡ 55 = omega arith in h),
+      le-ltb 255 (r .kind) (kind-small (s .kind-is)),
+    ) (narrow (r .cells) (s .binary))
   where
     kind-small : ((r .kind ≡ 1) × (r .cap ≡ 0)) ⊎ (r .kind ≡ 2) → r .kind ≤ 255
     kind-small (inl k) = let a = k .0 in omega arith
@@ -112,20 +117,24 @@ module _ (words cells : List ℕ) (s : length words ≡ 55) (t : length cells �
   pub stored-none : Stored words cells 0 words
   stored-none = record { below = omega arith; size = s; is = paste-zero words 6 cells }
 
-  pub stored-turn : (k : ℕ) (after : List ℕ) (v : ℕ) → Stored words cells k after → k < 49 → v ≡ getD cells k 0 → Stored words cells (k + 1) (set after (6 + k) v)
+  pub stored-turn : (k : ℕ) (after : List ℕ) (v : ℕ) → Stored words cells k after → k < 49 → v ≡ getD cells k 0
+      → Stored words cells (k + 1) (set after (6 + k) v)
   stored-turn k after v P l e = record {
     below = omega arith;
     size = length-set after (6 + k) v ∙ P .size;
-    is = ap₂ (λ m x. set m (6 + k) x) (P .is) e ∙ paste-suc words 6 cells k 0 (omega arith) (omega arith) ∙ ap (λ n. paste words 6 cells n) (sym (add-one k));
+    is = ap₂ (λ m x. set m (6 + k) x) (P .is) e ∙ paste-suc words 6 cells k 0 (omega arith) (omega arith)
+        ∙ ap (λ n. paste words 6 cells n) (sym (add-one k));
   }
 
   pub stored-all : (k : ℕ) (after : List ℕ) → Stored words cells k after → 49 ≤ k → after ≡ take 6 words ++ cells
   stored-all k after P l =
       let b = P .below in
       let e : k ≡ 49 = omega arith in
-      P .is ∙ ap (λ n. paste words 6 cells n) e ∙ rw (take-all 49 cells (le-of-eq t), drop-of-length-le words (le-of-eq s), append-nil)
+      P .is ∙ ap (λ n. paste words 6 cells n) e
+      ∙ rw (take-all 49 cells (le-of-eq t), drop-of-length-le words (le-of-eq s), append-nil)
 
 -- the words of a record, number by number and then cell by cell
-pub record-stored : (r : Record) (words middle after : List ℕ) (kind : ℕ) → kind ≡ r .kind → middle ≡ kind ∷ r .width ∷ r .height ∷ r .cap ∷ r .side ∷ r .rows ∷ drop 6 words
+pub record-stored : (r : Record) (words middle after : List ℕ) (kind : ℕ) → kind ≡ r .kind
+    → middle ≡ kind ∷ r .width ∷ r .height ∷ r .cap ∷ r .side ∷ r .rows ∷ drop 6 words
     → after ≡ take 6 middle ++ r .cells → after ≡ wordsOf r
 record-stored r words middle after kind k m e = e ∙ rw (m, k)

@@ -4,9 +4,9 @@ use mathlib.Core.Bool.{Bool, not, cond, _||_}
 use mathlib.Core.List.{List, [], _∷_}
 use lib.Dec.{eqb, ltb}
 use lib.ListN.{length, getD, drop}
+use Rattle.basics.specs.Bounds.{anyAbove}
 use Rattle.basics.specs.Refusals.{Refusal}
 use Rattle.run.specs.declared.Record.{Record}
-use Rattle.pgm.specs.WritePgm.{anyAbove}
 
 -- kind, width, height, cap, side, rows done, then the 49 cells
 abbrev pub wordsOf : Record → List ℕ
@@ -14,7 +14,15 @@ wordsOf r = r .kind ∷ r .width ∷ r .height ∷ r .cap ∷ r .side ∷ r .row
 
 abbrev pub recordOf : List ℕ → Record
 recordOf words =
-    record { kind = getD words 0 0; width = getD words 1 0; height = getD words 2 0; cap = getD words 3 0; side = getD words 4 0; rows = getD words 5 0; cells = drop 6 words }
+    record {
+      kind = getD words 0 0;
+      width = getD words 1 0;
+      height = getD words 2 0;
+      cap = getD words 3 0;
+      side = getD words 4 0;
+      rows = getD words 5 0;
+      cells = drop 6 words;
+    }
 
 -- words that no record holds: not 55, or a kind or a cell that is more than a byte
 unfoldable pub holdsNoRecord : List ℕ → Bool
@@ -33,6 +41,7 @@ abbrev pub atEleven : Refusal → List Refusal → List Refusal
 atEleven own [] = own ∷ []
 atEleven own (r ∷ rest) = cond (ltb 11 (r .0)) (own ∷ r ∷ rest) (r ∷ atEleven own rest)
 
--- the number of a call whose answer slice is of another length and whose refusals rise (all but reading PBM): 11, unless a lower one applies too
+-- the number of a call whose answer slice is of another length and whose refusals rise (all but reading PBM): 11, unless a lower
+-- one applies too
 abbrev pub atLatest : ℕ → ℕ
 atLatest number = cond (eqb number 0 || ltb 11 number) 11 number

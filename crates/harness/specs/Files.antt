@@ -19,7 +19,8 @@ abbrev pub framed : ℕ × ℕ × List ℕ → List ℕ × List ℕ
 framed (width, height, sheet) = (sheet, width ∷ height ∷ [])
 
 abbrev pub ReadsSheet : List ℕ → List ℕ → List ℕ → ℕ → List ℕ × List ℕ → Type 0
-ReadsSheet file out frame = Answers (readsRefusals file out frame) (out, frame) (λ after. after ≡ framed (readAnswer (header file) out))
+ReadsSheet file out frame =
+    Answers (readsRefusals file out frame) (out, frame) (λ after. after ≡ framed (readAnswer (header file) out))
 
 -- writing PBM: the text in the output's first bytes; its length
 abbrev pub writesRefusals : ℕ → ℕ → List ℕ → List ℕ → List ℕ → List Refusal
@@ -32,7 +33,8 @@ WritesSheet width height sheet out answer =
 
 -- writing PGM: the text in the output's first bytes; its length
 abbrev pub pictureRefusals : List ℕ → List ℕ → List ℕ → List ℕ → List Refusal
-pictureRefusals words levels out answer = wordsRefusal words ∷ atEleven (answerRefusal 1 answer) (pgmRefusals (recordOf words) levels out)
+pictureRefusals words levels out answer = wordsRefusal words ∷
+    atEleven (answerRefusal 1 answer) (pgmRefusals (recordOf words) levels out)
 
 abbrev pub WritesPicture : List ℕ → List ℕ → List ℕ → List ℕ → ℕ → List ℕ × List ℕ → Type 0
 WritesPicture words levels out answer =

@@ -22,7 +22,10 @@ StartsErosionWords width height sheet side cells levels words =
 abbrev pub StartsDilationWords : ℕ → ℕ → List ℕ → ℕ → List ℕ → ℕ → List ℕ → List ℕ → ℕ → List ℕ × List ℕ → Type 0
 StartsDilationWords width height sheet side cells cap levels words =
     Answers (dilationRefusals width height sheet side cells cap levels ++ answerRefusal 55 words ∷ []) (levels, words)
-    (λ after. after ≡ (startLevels width height (marginOf cap side) sheet 1 none, wordsOf (startRecord 2 width height cap side cells)))
+    (λ after. after ≡ (
+      startLevels width height (marginOf cap side) sheet 1 none,
+      wordsOf (startRecord 2 width height cap side cells),
+    ))
 
 -- continuing: the record, the levels, and whether all rows are done, as 1 or 0
 abbrev pub flag : Bool → ℕ
@@ -33,13 +36,20 @@ continueWords (run, all, levels) = (wordsOf run, levels, flag all ∷ [])
 
 abbrev pub ContinuesWords : List ℕ → List ℕ → ℕ → List ℕ → ℕ → List ℕ × List ℕ × List ℕ → Type 0
 ContinuesWords words levels allowance done =
-    Answers (wordsRefusal words ∷ atEleven (answerRefusal 1 done) (continueRefusals (recordOf words) levels allowance)) (words, levels, done)
+    Answers (wordsRefusal words ∷ atEleven (answerRefusal 1 done) (continueRefusals (recordOf words) levels allowance)) (
+      words,
+      levels,
+      done,
+    )
     (λ after. after ≡ continueWords (continued (recordOf words) levels allowance))
 
 -- collecting and thresholding: the output
 abbrev pub CollectsWords : List ℕ → List ℕ → List ℕ → ℕ → List ℕ → Type 0
-CollectsWords words levels out = Answers (wordsRefusal words ∷ collectRefusals (recordOf words) levels out) out (λ after. after ≡ collected (recordOf words) levels)
+CollectsWords words levels out =
+    Answers (wordsRefusal words ∷ collectRefusals (recordOf words) levels out) out
+    (λ after. after ≡ collected (recordOf words) levels)
 
 abbrev pub ThresholdsWords : List ℕ → List ℕ → ℕ → List ℕ → ℕ → List ℕ → Type 0
 ThresholdsWords words levels size out =
-    Answers (wordsRefusal words ∷ thresholdRefusals (recordOf words) levels size out) out (λ after. after ≡ thresholded (recordOf words) levels size)
+    Answers (wordsRefusal words ∷ thresholdRefusals (recordOf words) levels size out) out
+    (λ after. after ≡ thresholded (recordOf words) levels size)

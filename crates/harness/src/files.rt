@@ -3,10 +3,14 @@ use super::answers;
 use super::words;
 ghost use Rattle.harness.specs.Files.{ReadsSheet, WritesSheet, WritesPicture};
 
-// Public: reads a PBM file; the sheet goes to the front of `out`, the width and the height into `frame`. Refusals 21, 22, 2, 23, 24, 11.
+// Public: reads a PBM file; the sheet goes to the front of `out`, the width and the height into `frame`. Refusals 21, 22, 2, 23,
+// 24, 11.
 #[no_mangle]
 pub extern "C" fn wt_read_pbm(file: &[u8], out: &mut [u8], frame: &mut [u64]) -> u32
-    ensures { λ r. ⌜ ReadsSheet (now (file .entry)) (now (out .entry)) (now (frame .entry)) r (now (out .exit), now (frame .exit)) ⌝ }
+    ensures { λ r. ⌜ ReadsSheet (now (file .entry)) (now (out .entry)) (now (frame .entry)) r (
+      now (out .exit),
+      now (frame .exit),
+    ) ⌝ }
 {
     if frame.len() != 2 {
         // The file is judged with a room of our own: where nothing else is wrong, 11 is given, whatever the room.
@@ -36,7 +40,10 @@ pub extern "C" fn wt_write_pbm(
     out: &mut [u8],
     answer: &mut [u64],
 ) -> u32
-    ensures { λ r. ⌜ WritesSheet width height (now (sheet .entry)) (now (out .entry)) (now (answer .entry)) r (now (out .exit), now (answer .exit)) ⌝ }
+    ensures { λ r. ⌜ WritesSheet width height (now (sheet .entry)) (now (out .entry)) (now (answer .entry)) r (
+      now (out .exit),
+      now (answer .exit),
+    ) ⌝ }
 {
     let columns = width as usize;
     let rows = height as usize;
@@ -53,7 +60,8 @@ pub extern "C" fn wt_write_pbm(
     0
 }
 
-// Public: writes the collected levels of a finished run as PGM to the front of `out`, and its length into `answer`. Refusals 1, 8, 10, 11, 13.
+// Public: writes the collected levels of a finished run as PGM to the front of `out`, and its length into `answer`. Refusals 1,
+// 8, 10, 11, 13.
 #[no_mangle]
 pub extern "C" fn wt_write_pgm(
     words: &[u64],
@@ -61,7 +69,8 @@ pub extern "C" fn wt_write_pgm(
     out: &mut [u8],
     answer: &mut [u64],
 ) -> u32
-    ensures { λ r. ⌜ WritesPicture (now (words .entry)) (now (levels .entry)) (now (out .entry)) (now (answer .entry)) r (now (out .exit), now (answer .exit)) ⌝ }
+    ensures { λ r. ⌜ WritesPicture (now (words .entry)) (now (levels .entry)) (now (out .entry)) (now (answer .entry)) r
+        (now (out .exit), now (answer .exit)) ⌝ }
 {
     if words::holds_no_record(words) {
         return 1;

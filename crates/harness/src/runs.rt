@@ -2,7 +2,8 @@
 use super::answers;
 use super::words;
 ghost use mathlib.Core.Path.{_≡_};
-ghost use Rattle.harness.specs.Runs.{flag, StartsErosionWords, StartsDilationWords, ContinuesWords, CollectsWords, ThresholdsWords};
+ghost use Rattle.harness.specs.Runs.{flag, StartsErosionWords, StartsDilationWords, ContinuesWords, CollectsWords};
+ghost use Rattle.harness.specs.Runs.{ThresholdsWords};
 
 // Public: the frame's levels of a finished run, into `out`. Refusals 1, 10, 11, 13.
 #[no_mangle]
@@ -38,7 +39,8 @@ fn flag_of(all: bool) -> u64
     0
 }
 
-// Public: works the allowance of rows or what is due, the lesser; `done` becomes 1 when all rows are done, else 0. Refusals 1, 10, 11, 12.
+// Public: works the allowance of rows or what is due, the lesser; `done` becomes 1 when all rows are done, else 0. Refusals 1,
+// 10, 11, 12.
 #[no_mangle]
 pub extern "C" fn wt_continue(
     words: &mut [u64],
@@ -46,7 +48,11 @@ pub extern "C" fn wt_continue(
     allowance: u64,
     done: &mut [u64],
 ) -> u32
-    ensures { λ r. ⌜ ContinuesWords (now (words .entry)) (now (levels .entry)) allowance (now (done .entry)) r (now (words .exit), now (levels .exit), now (done .exit)) ⌝ }
+    ensures { λ r. ⌜ ContinuesWords (now (words .entry)) (now (levels .entry)) allowance (now (done .entry)) r (
+      now (words .exit),
+      now (levels .exit),
+      now (done .exit),
+    ) ⌝ }
 {
     if words::holds_no_record(words) {
         return 1;
@@ -79,7 +85,8 @@ pub extern "C" fn wt_start_erosion(
     levels: &mut [u16],
     words: &mut [u64],
 ) -> u32
-    ensures { λ r. ⌜ StartsErosionWords width height (now (sheet .entry)) side (now (cells .entry)) (now (levels .entry)) (now (words .entry)) r (now (levels .exit), now (words .exit)) ⌝ }
+    ensures { λ r. ⌜ StartsErosionWords width height (now (sheet .entry)) side (now (cells .entry)) (now (levels .entry))
+        (now (words .entry)) r (now (levels .exit), now (words .exit)) ⌝ }
 {
     let columns = width as usize;
     let rows = height as usize;
@@ -117,7 +124,8 @@ pub extern "C" fn wt_start_dilation(
     levels: &mut [u16],
     words: &mut [u64],
 ) -> u32
-    ensures { λ r. ⌜ StartsDilationWords width height (now (sheet .entry)) side (now (cells .entry)) cap (now (levels .entry)) (now (words .entry)) r (now (levels .exit), now (words .exit)) ⌝ }
+    ensures { λ r. ⌜ StartsDilationWords width height (now (sheet .entry)) side (now (cells .entry)) cap (now (levels .entry))
+        (now (words .entry)) r (now (levels .exit), now (words .exit)) ⌝ }
 {
     let columns = width as usize;
     let rows = height as usize;

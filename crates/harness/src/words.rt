@@ -5,7 +5,7 @@ ghost use mathlib.Core.Bool.{false};
 ghost use mathlib.Core.List.{_∷_, _++_};
 ghost use Prim.Native.Nat.{_≤_};
 ghost use lib.ListN.{length, take, drop};
-ghost use Rattle.pgm.specs.WritePgm.{anyAbove};
+ghost use Rattle.basics.specs.Bounds.{anyAbove};
 ghost use Rattle.harness.specs.Boundary.{wordsOf, recordOf, holdsNoRecord};
 
 // Whether a cell is more than a byte.

@@ -1,4 +1,5 @@
--- The loop that clears padding: the first k bytes of the output are the packed sheet's, and `left` bytes of the row are still to come. Where one is left it is the
+-- The loop that clears padding: the first k bytes of the output are the packed sheet's, and `left` bytes of the row are still to
+-- come. Where one is left it is the
 -- row's last, and loses as many bits as the row has padding; any other is copied.
 use Prim.Native.Nat.{ℕ, suc, _+_, _-_, _*_, _/_, _%_, _^_, _≤_, _<_, min}
 use native.Mathlib.Nat.{zero-mod, mod-one, mod-eq-of-lt, suc-mul, one-le-pow, pow-le-pow-right}
@@ -30,8 +31,10 @@ pub record Given (width height : ℕ) (bytes out : List ℕ) (row count weight :
   pub room : count ≤ length out
 
 module _ {width height row weight : ℕ} (bytes out : List ℕ) where
-  pub ready : row ≡ rowBytes width → weight ≡ 2 ^ (rowBytes width * 8 - width) → height * rowBytes width ≤ length bytes → height * rowBytes width ≤ length out → Given width height bytes out row (height * row) weight
-  ready r w a b = let e = ap (λ n. height * n) r in record { row-is = r; count-is = e; weight-is = w; there = omega arith; room = omega arith }
+  pub ready : row ≡ rowBytes width → weight ≡ 2 ^ (rowBytes width * 8 - width) → height * rowBytes width ≤ length bytes
+      → height * rowBytes width ≤ length out → Given width height bytes out row (height * row) weight
+  ready r w a b = let e = ap (λ n. height * n) r in
+      record { row-is = r; count-is = e; weight-is = w; there = omega arith; room = omega arith }
 
 -- the weight of the padding, as it is shifted
 pub weight-shifted : (width row : ℕ) → row ≡ rowBytes width → 1 * 2 ^ (row * 8 - width) % 256 ≡ 2 ^ (rowBytes width * 8 - width)
@@ -61,19 +64,25 @@ first-column w k l =
     ap (λ m. m % w) n ∙ column-of w (suc (k / w)) 0 (omega arith)
 
 -- the output is filled: its first bytes are the packed sheet
-filled-begun : (width height : ℕ) (bytes out : List ℕ) → filled (height * rowBytes width) (packedAt width bytes) out ≡ begun (cleared width height bytes) out
+filled-begun : (width height : ℕ) (bytes out : List ℕ)
+    → filled (height * rowBytes width) (packedAt width bytes) out ≡ begun (cleared width height bytes) out
 unfolding filled begun cleared packed raster
-filled-begun width height bytes out = ap (λ n. table (height * rowBytes width) (packedAt width bytes) ++ drop n out) (sym (length-table (packedAt width bytes) (height * rowBytes width)))
+filled-begun width height bytes out =
+    ap (λ n. table (height * rowBytes width) (packedAt width bytes) ++ drop n out)
+    (sym (length-table (packedAt width bytes) (height * rowBytes width)))
 
-pub clearing-start : {width height : ℕ} {bytes out : List ℕ} {row count weight : ℕ} → Given width height bytes out row count weight → Clearing width height bytes out row count weight row 0 out
+pub clearing-start : {width height : ℕ} {bytes out : List ℕ} {row count weight : ℕ}
+    → Given width height bytes out row count weight → Clearing width height bytes out row count weight row 0 out
 clearing-start {width} {height} {bytes} {out} g =
     let z = zero-mod (rowBytes width) in
     let r = g .row-is in
     record { given = g; below = omega arith; to-come = omega arith; front = sym (filled-none (packedAt width bytes) out) }
 
-module _ {width height : ℕ} {bytes out : List ℕ} {row count weight left k : ℕ} {now : List ℕ} (h : Clearing width height bytes out row count weight left k now) where
+module _ {width height : ℕ} {bytes out : List ℕ} {row count weight left k : ℕ} {now : List ℕ}
+    (h : Clearing width height bytes out row count weight left k now) where
   pub clearing-length : length now ≡ length out
-  clearing-length = let b = h .below in let r = h .given .room in ap length (h .front) ∙ length-filled (packedAt width bytes) k out (omega arith)
+  clearing-length = let b = h .below in let r = h .given .room in
+      ap length (h .front) ∙ length-filled (packedAt width bytes) k out (omega arith)
 
   pub clearing-end : count ≤ k → now ≡ begun (cleared width height bytes) out
   clearing-end l =
@@ -99,7 +108,8 @@ module _ {width height : ℕ} {bytes out : List ℕ} {row count weight left k : 
     write-room = let r = h .given .room in let e = clearing-length in omega arith
 
     -- the byte that the turn stores
-    stored : (byte new : ℕ) → byte ≡ getD bytes k 0 → byte < 256 → new ≡ cond (eqb left 1) (byte - byte % weight) byte → new ≡ packedAt width bytes k
+    stored : (byte new : ℕ) → byte ≡ getD bytes k 0 → byte < 256 → new ≡ cond (eqb left 1) (byte - byte % weight) byte
+        → new ≡ packedAt width bytes k
     stored byte new e b q = go (eqb left 1) refl q
       where
         place : byte ≡ getD bytes (k / rowBytes width * rowBytes width + k % rowBytes width) 0
@@ -112,7 +122,8 @@ module _ {width height : ℕ} {bytes out : List ℕ} {row count weight left k : 
             let r = in-row in
             let kept = min (width - k % rowBytes width * 8) 8 in
             let s : rowBytes width * 8 - width ≡ 8 - kept = omega arith in
-            q ∙ ap (λ w. byte - byte % w) (h .given .weight-is ∙ ap (λ n. 2 ^ n) s) ∙ sym (packed-byte width bytes (k / rowBytes width) (k % rowBytes width) kept in-row refl byte place b)
+            q ∙ ap (λ w. byte - byte % w) (h .given .weight-is ∙ ap (λ n. 2 ^ n) s)
+            ∙ sym (packed-byte width bytes (k / rowBytes width) (k % rowBytes width) kept in-row refl byte place b)
         go false t q =
             let c = h .to-come in
             let o = eqb-false left 1 t in
@@ -140,8 +151,14 @@ module _ {width height : ℕ} {bytes out : List ℕ} {row count weight left k : 
             let f = next-column (rowBytes width) k (omega arith) in
             omega arith
 
-    pub clearing-turn : (byte new left′ : ℕ) → byte ≡ getD bytes k 0 → byte < 256 → new ≡ cond (eqb left 1) (byte - byte % weight) byte → left′ ≡ cond (eqb left 1) row (left - 1)
+    pub clearing-turn : (byte new left′ : ℕ) → byte ≡ getD bytes k 0 → byte < 256
+        → new ≡ cond (eqb left 1) (byte - byte % weight) byte → left′ ≡ cond (eqb left 1) row (left - 1)
         → Clearing width height bytes out row count weight left′ (k + 1) (set now k new)
     clearing-turn byte new left′ e b q r =
         let m = h .given .room in
-        record { given = h .given; below = omega arith; to-come = counted left′ r; front = filled-more (packedAt width bytes) k out now new (omega arith) (h .front) (stored byte new e b q) }
+        record {
+          given = h .given;
+          below = omega arith;
+          to-come = counted left′ r;
+          front = filled-more (packedAt width bytes) k out now new (omega arith) (h .front) (stored byte new e b q);
+        }

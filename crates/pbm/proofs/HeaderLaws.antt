@@ -61,19 +61,36 @@ module _ (file : List ℕ) (at start : ℕ) (e : start ≡ at + length (whiteRun
     pub field-without-digits : start ≢ at → next ≡ start → field (drop at file) ≡ missing
     unfolding field
     field-without-digits n z =
-        rw (ne-eqb (length (whiteRun (drop at file))) 0 (λ k. n (omega arith)), ← digit-row, eq-eqb (length (digitRun (drop start file))) 0 (omega arith))
+        rw (
+          ne-eqb (length (whiteRun (drop at file))) 0 (λ k. n (omega arith)),
+          ← digit-row,
+          eq-eqb (length (digitRun (drop start file))) 0 (omega arith),
+        )
 
     field-number : start ≢ at → next ≢ start → field (drop at file) ≡ number (value (digitRun (drop start file))) (drop next file)
     unfolding field
     field-number n m =
-        let r : drop next file ≡ drop (length (digitRun (drop start file))) (drop start file) = ap (λ k. drop k file) f ∙ sym (drop-drop (length (digitRun (drop start file))) start file) in
-        rw (ne-eqb (length (whiteRun (drop at file))) 0 (λ k. n (omega arith)), r, ← after-white, ne-eqb (length (digitRun (drop start file))) 0 (λ k. m (omega arith)))
+        let r : drop next file ≡ drop (length (digitRun (drop start file))) (drop start file) = ap (λ k. drop k file) f
+        ∙ sym (drop-drop (length (digitRun (drop start file))) start file) in
+        rw (
+          ne-eqb (length (whiteRun (drop at file))) 0 (λ k. n (omega arith)),
+          r,
+          ← after-white,
+          ne-eqb (length (digitRun (drop start file))) 0 (λ k. m (omega arith)),
+        )
 
     next-within : start ≤ length file → next ≤ length file
-    next-within l = let s = run-short isDigit (drop start file) in let d = length-drop start file in let r = ap length (digit-run (drop start file)) in omega arith
+    next-within l = let s = run-short isDigit (drop start file) in let d = length-drop start file in
+        let r = ap length (digit-run (drop start file)) in omega arith
 
-    pub field-found : (amount : ℕ) → start ≤ length file → start ≢ at → next ≢ start → amount ≡ min (value (digitRun (drop start file))) limit → FieldRead file at true amount next
-    field-found amount l n m e = record { within = next-within l; lost = λ z. absurd (true≢false z); there = λ _. (value (digitRun (drop start file)), field-number n m, e) }
+    pub field-found : (amount : ℕ) → start ≤ length file → start ≢ at → next ≢ start
+        → amount ≡ min (value (digitRun (drop start file))) limit → FieldRead file at true amount next
+    field-found amount l n m e =
+        record {
+          within = next-within l;
+          lost = λ z. absurd (true≢false z);
+          there = λ _. (value (digitRun (drop start file)), field-number n m, e);
+        }
 
   pub start-within : at ≤ length file → start ≤ length file
   start-within l = let s = run-short isWhite (drop at file) in let d = length-drop at file in omega arith
@@ -122,8 +139,10 @@ module _ (file : List ℕ) where
     header-22 : header file ≡ broken → HeaderRead file 22 0 0 0
     header-22 e = record { first-is = rw (p, e); accepted = λ z. absurd (omega arith) }
 
-    header-2 : (refusal width height at exactWidth exactHeight : ℕ) → at ≤ length file → header file ≡ whole exactWidth exactHeight (drop at file)
-        → width ≡ min exactWidth limit → height ≡ min exactHeight limit → refusal ≡ first (frameRefusals width height) → HeaderRead file refusal width height at
+    header-2 : (refusal width height at exactWidth exactHeight : ℕ) → at ≤ length file
+        → header file ≡ whole exactWidth exactHeight (drop at file)
+        → width ≡ min exactWidth limit → height ≡ min exactHeight limit → refusal ≡ first (frameRefusals width height)
+        → HeaderRead file refusal width height at
     header-2 refusal width height at exactWidth exactHeight l e m n r = record {
       first-is = r ∙ (rw (p, e, m, n, side-cut exactWidth, side-cut exactHeight));
       accepted = λ z.
@@ -144,7 +163,8 @@ module _ (file : List ℕ) where
 
         module _ (u : found₂ ≡ true) where
           pub lost-end : isNone (whiteRun (drop end file)) ≡ true → HeaderRead file 22 0 0 0
-          lost-end z = header-22 (without-end file p (f .there t .0) (drop gap file) (f .there t .1) (g .there u .0) (drop end file) (g .there u .1) z)
+          lost-end z = header-22 (without-end file p (f .there t .0) (drop gap file) (f .there t .1) (g .there u .0)
+              (drop end file) (g .there u .1) z)
 
           -- a white byte there is, so the raster begins within the file
           end-within : isNone (whiteRun (drop end file)) ≡ false → end + 1 ≤ length file
@@ -154,9 +174,12 @@ module _ (file : List ℕ) where
               go (yes l) = omega arith
               go (no l) = absurd (true≢false (sym (run-none isWhite file end (let h : length file ≤ end = omega arith in h)) ∙ z))
 
-          pub found-header : isNone (whiteRun (drop end file)) ≡ false → (refusal : ℕ) → refusal ≡ first (frameRefusals width height) → (at : ℕ) → at ≡ end + 1 → HeaderRead file refusal width height at
+          pub found-header : isNone (whiteRun (drop end file)) ≡ false → (refusal : ℕ)
+              → refusal ≡ first (frameRefusals width height) → (at : ℕ) → at ≡ end + 1 → HeaderRead file refusal width height at
           found-header z refusal r at a =
               let l = end-within z in
               header-2 refusal width height at (f .there t .0) (g .there u .0) (omega arith)
-              (header-whole file p (f .there t .0) (drop gap file) (f .there t .1) (g .there u .0) (drop end file) (g .there u .1) z ∙ ap (whole (f .there t .0) (g .there u .0)) (drop-drop 1 end file ∙ ap (λ k. drop k file) (sym a)))
+              (header-whole file p (f .there t .0) (drop gap file) (f .there t .1) (g .there u .0) (drop end file)
+              (g .there u .1) z ∙ ap (whole (f .there t .0) (g .there u .0))
+              (drop-drop 1 end file ∙ ap (λ k. drop k file) (sym a)))
               (f .there t .2) (g .there u .2) r

@@ -1,4 +1,5 @@
--- A header is whole exactly where its file is laid out so. One way, each part is the run that the definition takes, since what follows it is of another kind;
+-- A header is whole exactly where its file is laid out so. One way, each part is the run that the definition takes, since what
+-- follows it is of another kind;
 -- the other way, the runs that the definition took are the parts.
 use Prim.Native.Nat.{ℕ, suc}
 use native.Mathlib.Omega.{arith}
@@ -12,8 +13,10 @@ use lib.Seq.{drop-append-seam}
 use borrow.Author.Tests.{ne-eqb, eqb-true}
 use Rattle.decimal.specs.Numbers.{isDigit, value, digitRun}
 use Rattle.decimal.proofs.NumberLaws.{digit-bounds}
-use Rattle.pbm.specs.Header.{isWhite, all, run, whiteRun, afterWhite, afterDigits, isNone, Field, missing, number, field, beginsP4, broken, whole, header, Layout}
-use Rattle.pbm.proofs.RunLaws.{both, run-stops, run-more, run-append, run-other, run-front, run-all, run-some, digit-run, filled-row, row-filled}
+use Rattle.pbm.specs.Header.{isWhite, all, run, whiteRun, afterWhite, afterDigits, isNone, Field, missing, number, field}
+use Rattle.pbm.specs.Header.{beginsP4, broken, whole, header, Layout}
+use Rattle.pbm.proofs.RunLaws.{both, run-stops, run-more, run-append, run-other, run-front, run-all, run-some, digit-run}
+use Rattle.pbm.proofs.RunLaws.{filled-row, row-filled}
 use Rattle.pbm.proofs.HeaderLaws.{without-width, without-height, without-end, header-whole}
 
 -- no byte is both
@@ -21,7 +24,12 @@ digit-apart : (byte : ℕ) → isDigit byte ≡ true → isWhite byte ≡ false
 unfolding isWhite
 digit-apart byte e =
     let b = digit-bounds byte e in
-    rw (ne-eqb byte 32 (λ z. omega arith), ne-eqb byte 9 (λ z. omega arith), ne-eqb byte 13 (λ z. omega arith), ne-eqb byte 10 (λ z. omega arith))
+    rw (
+      ne-eqb byte 32 (λ z. omega arith),
+      ne-eqb byte 9 (λ z. omega arith),
+      ne-eqb byte 13 (λ z. omega arith),
+      ne-eqb byte 10 (λ z. omega arith),
+    )
 
 white-apart : (byte : ℕ) → isWhite byte ≡ true → isDigit byte ≡ false
 white-apart byte e = go (isDigit byte) refl
@@ -41,7 +49,8 @@ record Laid (bytes : List ℕ) (amount : ℕ) (rest : List ℕ) : Type 0 where
   all-digits : all isDigit row ≡ true
   amount-is : amount ≡ value row
 
-module _ (white row rest : List ℕ) (n : white ≢ []) (m : row ≢ []) (a : all isWhite white ≡ true) (b : all isDigit row ≡ true) (stops : run isDigit rest ≡ []) where
+module _ (white row rest : List ℕ) (n : white ≢ []) (m : row ≢ []) (a : all isWhite white ≡ true) (b : all isDigit row ≡ true)
+    (stops : run isDigit rest ≡ []) where
   white-run : whiteRun (white ++ (row ++ rest)) ≡ white
   white-run = run-append isWhite white (row ++ rest) a (run-other isWhite isDigit digit-apart row rest m b)
 
@@ -64,14 +73,17 @@ unfolding field
 laid-field bytes amount rest e = go (isNone (whiteRun bytes)) (isNone (digitRun (afterWhite bytes))) refl refl e
   where
     go : (b c : Bool) → isNone (whiteRun bytes) ≡ b → isNone (digitRun (afterWhite bytes)) ≡ c
-        → cond (b || c) missing (number (value (digitRun (afterWhite bytes))) (afterDigits (afterWhite bytes))) ≡ number amount rest → Laid bytes amount rest
+        → cond (b || c) missing (number (value (digitRun (afterWhite bytes))) (afterDigits (afterWhite bytes)))
+        ≡ number amount rest → Laid bytes amount rest
     go true c p q e = absurd (let z : _≡_ {A = ℕ} 0 1 = cc in omega arith)
     go false true p q e = absurd (let z : _≡_ {A = ℕ} 0 1 = cc in omega arith)
     go false false p q e =
         let v : amount ≡ value (digitRun (afterWhite bytes)) = cc in
         let r : afterDigits (afterWhite bytes) ≡ rest = cc in
         let d = digit-run (afterWhite bytes) in
-        let f : afterWhite bytes ≡ digitRun (afterWhite bytes) ++ afterDigits (afterWhite bytes) = run-front isDigit (afterWhite bytes) ∙ ap (λ row. row ++ drop (length row) (afterWhite bytes)) (sym d) in
+        let f : afterWhite bytes ≡ digitRun (afterWhite bytes) ++
+        afterDigits (afterWhite bytes) = run-front isDigit (afterWhite bytes)
+        ∙ ap (λ row. row ++ drop (length row) (afterWhite bytes)) (sym d) in
         record {
           white = whiteRun bytes;
           row = digitRun (afterWhite bytes);
@@ -110,11 +122,15 @@ module _ (file : List ℕ) (width height : ℕ) (raster : List ℕ) where
       let stop₂ = run-stops isDigit (l .white₃) raster (white-apart (l .white₃) (l .white .2)) in
       let stop₁ = run-other isDigit isWhite white-apart (l .white₂) rest₂ (l .some .2) (l .white .1) in
       let one = run-more isWhite (l .white₃) raster (l .white .2) in
-      let end : isNone (whiteRun (l .white₃ ∷ raster)) ≡ false = ap isNone one ∙ ne-eqb (suc (length (whiteRun raster))) 0 (λ z. omega arith) in
+      let end : isNone (whiteRun (l .white₃ ∷ raster)) ≡ false = ap isNone one
+      ∙ ne-eqb (suc (length (whiteRun raster))) 0 (λ z. omega arith) in
       rw (l .bytes, l .values .0, l .values .1)
       (header-whole (80 ∷ 52 ∷ (l .white₁ ++ (l .widthDigits ++ rest₁))) (p4-begins (l .white₁ ++ (l .widthDigits ++ rest₁)))
-      (value (l .widthDigits)) rest₁ (field-laid (l .white₁) (l .widthDigits) rest₁ (l .some .0) (l .some .1) (l .white .0) (l .digits .0) stop₁)
-      (value (l .heightDigits)) (l .white₃ ∷ raster) (field-laid (l .white₂) (l .heightDigits) (l .white₃ ∷ raster) (l .some .2) (l .some .3) (l .white .1) (l .digits .1) stop₂) end)
+      (value (l .widthDigits)) rest₁
+      (field-laid (l .white₁) (l .widthDigits) rest₁ (l .some .0) (l .some .1) (l .white .0) (l .digits .0) stop₁)
+      (value (l .heightDigits)) (l .white₃ ∷ raster)
+      (field-laid (l .white₂) (l .heightDigits) (l .white₃ ∷ raster) (l .some .2) (l .some .3) (l .white .1)
+      (l .digits .1) stop₂) end)
 
   pub whole-layout : header file ≡ whole width height raster → Layout file width height raster
   whole-layout e = begun (beginsP4 file) refl
@@ -122,7 +138,8 @@ module _ (file : List ℕ) (width height : ℕ) (raster : List ℕ) where
       never : header file ≡ broken → ⊥
       never z = let q : _≡_ {A = ℕ} 0 1 = cc in omega arith
 
-      ended : (p : beginsP4 file ≡ true) (w : ℕ) (rest₁ : List ℕ) (f : field (drop 2 file) ≡ number w rest₁) (h : ℕ) (rest₂ : List ℕ) (g : field rest₁ ≡ number h rest₂) (b : Bool)
+      ended : (p : beginsP4 file ≡ true) (w : ℕ) (rest₁ : List ℕ) (f : field (drop 2 file) ≡ number w rest₁) (h : ℕ)
+          (rest₂ : List ℕ) (g : field rest₁ ≡ number h rest₂) (b : Bool)
           → isNone (whiteRun rest₂) ≡ b → Layout file width height raster
       ended p w rest₁ f h rest₂ g true z = absurd (never (without-end file p w rest₁ f h rest₂ g z))
       ended p w rest₁ f h rest₂ g false z =
@@ -141,14 +158,16 @@ module _ (file : List ℕ) (width height : ℕ) (raster : List ℕ) where
             white₃ = getD rest₂ 0 0;
             bytes =
                 p4-laid file p ∙ ap (λ bytes. 80 ∷ 52 ∷ bytes)
-                (l .bytes-are ∙ ap (λ bytes. l .white ++ (l .row ++ bytes)) (m .bytes-are ∙ ap (λ bytes. m .white ++ (m .row ++ bytes)) (one .1 ∙ ap (λ bytes. getD rest₂ 0 0 ∷ bytes) c)));
+                (l .bytes-are ∙ ap (λ bytes. l .white ++ (l .row ++ bytes))
+                (m .bytes-are ∙ ap (λ bytes. m .white ++ (m .row ++ bytes)) (one .1 ∙ ap (λ bytes. getD rest₂ 0 0 ∷ bytes) c)));
             some = (l .some-white, l .some-digits, m .some-white, m .some-digits);
             white = (l .all-white, m .all-white, one .0);
             digits = (l .all-digits, m .all-digits);
             values = (a ∙ l .amount-is, b ∙ m .amount-is);
           }
 
-      second : (p : beginsP4 file ≡ true) (w : ℕ) (rest₁ : List ℕ) (f : field (drop 2 file) ≡ number w rest₁) (found : Field) → field rest₁ ≡ found → Layout file width height raster
+      second : (p : beginsP4 file ≡ true) (w : ℕ) (rest₁ : List ℕ) (f : field (drop 2 file) ≡ number w rest₁) (found : Field)
+          → field rest₁ ≡ found → Layout file width height raster
       second p w rest₁ f missing g = absurd (never (without-height file p w rest₁ f g))
       second p w rest₁ f (number h rest₂) g = ended p w rest₁ f h rest₂ g (isNone (whiteRun rest₂)) refl
 

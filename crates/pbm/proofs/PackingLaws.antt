@@ -1,5 +1,7 @@
--- A row's bytes are copied as they are, all but the last, whose padding bits are taken off as a remainder. A byte is the sum of its bits by their weights, so
--- without its lowest bits it is the sum of the others: omega shows it for each of the eight numbers of bits that a last byte can keep.
+-- A row's bytes are copied as they are, all but the last, whose padding bits are taken off as a remainder. A byte is the sum of
+-- its bits by their weights, so
+-- without its lowest bits it is the sum of the others: omega shows it for each of the eight numbers of bits that a last byte can
+-- keep.
 use Prim.Native.Nat.{ℕ, zero, suc, _+_, _-_, _*_, _/_, _%_, _^_, _≤_, _<_, min}
 use native.Mathlib.Nat.{div-div-eq-div-mul, div-add-mod}
 use native.Mathlib.Decide.{decLt}
@@ -21,25 +23,40 @@ use Rattle.pbm.specs.Pbm.{cleared}
 abbrev weigh : (ℕ → ℕ) → ℕ
 weigh at = 128 * at 0 + 64 * at 1 + 32 * at 2 + 16 * at 3 + 8 * at 4 + 4 * at 5 + 2 * at 6 + at 7
 
-packed-weigh : (width : ℕ) (pixels : ℕ → ℕ) (k : ℕ) (at : ℕ → ℕ) → ((i : ℕ) → i < 8 → cond (ltb (k * 8 + i) width) (pixels (k * 8 + i)) 0 ≡ at i) → packedByte width pixels k ≡ weigh at
+packed-weigh : (width : ℕ) (pixels : ℕ → ℕ) (k : ℕ) (at : ℕ → ℕ)
+    → ((i : ℕ) → i < 8 → cond (ltb (k * 8 + i) width) (pixels (k * 8 + i)) 0 ≡ at i) → packedByte width pixels k ≡ weigh at
 unfolding packedByte
 packed-weigh width pixels k at e =
-    rw (e 0 (omega arith), e 1 (omega arith), e 2 (omega arith), e 3 (omega arith), e 4 (omega arith), e 5 (omega arith), e 6 (omega arith), e 7 (omega arith))
+    rw (
+      e 0 (omega arith),
+      e 1 (omega arith),
+      e 2 (omega arith),
+      e 3 (omega arith),
+      e 4 (omega arith),
+      e 5 (omega arith),
+      e 6 (omega arith),
+      e 7 (omega arith),
+    )
 
 -- the bits of a byte that are below `kept`
 abbrev keptBits : ℕ → ℕ → ℕ → ℕ
 keptBits byte kept i = cond (ltb i kept) (bit byte i) 0
 
--- eight halves in a row, each twice the next and a bit: without its lowest bits, a number is the sum of the others by their weights
+-- eight halves in a row, each twice the next and a bit: without its lowest bits, a number is the sum of the others by their
+-- weights
 abbrev Sums : (n h₁ h₂ h₃ h₄ h₅ h₆ h₇ a b c d e f g h : ℕ) → Type 0
 Sums n h₁ h₂ h₃ h₄ h₅ h₆ h₇ a b c d e f g h =
-    (128 * a ≡ 128 * h₇) × (128 * a + 64 * b ≡ 64 * h₆) × (128 * a + 64 * b + 32 * c ≡ 32 * h₅) × (128 * a + 64 * b + 32 * c + 16 * d ≡ 16 * h₄)
+    (128 * a ≡ 128 * h₇) × (128 * a + 64 * b ≡ 64 * h₆) × (128 * a + 64 * b + 32 * c ≡ 32 * h₅) ×
+    (128 * a + 64 * b + 32 * c + 16 * d ≡ 16 * h₄)
     × (128 * a + 64 * b + 32 * c + 16 * d + 8 * e ≡ 8 * h₃) × (128 * a + 64 * b + 32 * c + 16 * d + 8 * e + 4 * f ≡ 4 * h₂)
-    × (128 * a + 64 * b + 32 * c + 16 * d + 8 * e + 4 * f + 2 * g ≡ 2 * h₁) × (128 * a + 64 * b + 32 * c + 16 * d + 8 * e + 4 * f + 2 * g + h ≡ n)
+    × (128 * a + 64 * b + 32 * c + 16 * d + 8 * e + 4 * f + 2 * g ≡ 2 * h₁) ×
+    (128 * a + 64 * b + 32 * c + 16 * d + 8 * e + 4 * f + 2 * g + h ≡ n)
 
-sums : (n h₁ h₂ h₃ h₄ h₅ h₆ h₇ a b c d e f g h : ℕ) → n ≡ 2 * h₁ + h → h₁ ≡ 2 * h₂ + g → h₂ ≡ 2 * h₃ + f → h₃ ≡ 2 * h₄ + e → h₄ ≡ 2 * h₅ + d → h₅ ≡ 2 * h₆ + c → h₆ ≡ 2 * h₇ + b → h₇ ≡ a
+sums : (n h₁ h₂ h₃ h₄ h₅ h₆ h₇ a b c d e f g h : ℕ) → n ≡ 2 * h₁ + h → h₁ ≡ 2 * h₂ + g → h₂ ≡ 2 * h₃ + f → h₃ ≡ 2 * h₄ + e
+    → h₄ ≡ 2 * h₅ + d → h₅ ≡ 2 * h₆ + c → h₆ ≡ 2 * h₇ + b → h₇ ≡ a
     → Sums n h₁ h₂ h₃ h₄ h₅ h₆ h₇ a b c d e f g h
-sums n h₁ h₂ h₃ h₄ h₅ h₆ h₇ a b c d e f g h p q r s t u v w = (omega arith, omega arith, omega arith, omega arith, omega arith, omega arith, omega arith, omega arith)
+sums n h₁ h₂ h₃ h₄ h₅ h₆ h₇ a b c d e f g h p q r s t u v w =
+    (omega arith, omega arith, omega arith, omega arith, omega arith, omega arith, omega arith, omega arith)
 
 module _ (byte : ℕ) (small : byte < 256) where
   half : (n : ℕ) → byte / n ≡ 2 * (byte / (n * 2)) + byte / n % 2
@@ -49,7 +66,8 @@ module _ (byte : ℕ) (small : byte < 256) where
   less : (n m : ℕ) → m ≡ n * (byte / n) → m ≡ byte - byte % n
   less n m e = let d = div-add-mod byte n in omega arith
 
-  weights : Sums byte (byte / 2) (byte / 4) (byte / 8) (byte / 16) (byte / 32) (byte / 64) (byte / 128) (bit byte 0) (bit byte 1) (bit byte 2) (bit byte 3) (bit byte 4) (bit byte 5) (bit byte 6) (bit byte 7)
+  weights : Sums byte (byte / 2) (byte / 4) (byte / 8) (byte / 16) (byte / 32) (byte / 64) (byte / 128) (bit byte 0) (bit byte 1)
+      (bit byte 2) (bit byte 3) (bit byte 4) (bit byte 5) (bit byte 6) (bit byte 7)
   weights =
       sums byte (byte / 2) (byte / 4) (byte / 8) (byte / 16) (byte / 32) (byte / 64) (byte / 128) _ _ _ _ _ _ _ _
       (omega arith) (half 2) (half 4) (half 8) (half 16) (half 32) (half 64) (omega arith)
@@ -62,35 +80,45 @@ module _ (byte : ℕ) (small : byte < 256) where
   kept-sum (suc (suc (suc (suc zero)))) l h = let s = weights .3 in less 16 (weigh (keptBits byte 4)) (omega arith)
   kept-sum (suc (suc (suc (suc (suc zero))))) l h = let s = weights .4 in less 8 (weigh (keptBits byte 5)) (omega arith)
   kept-sum (suc (suc (suc (suc (suc (suc zero)))))) l h = let s = weights .5 in less 4 (weigh (keptBits byte 6)) (omega arith)
-  kept-sum (suc (suc (suc (suc (suc (suc (suc zero))))))) l h = let s = weights .6 in less 2 (weigh (keptBits byte 7)) (omega arith)
-  kept-sum (suc (suc (suc (suc (suc (suc (suc (suc zero)))))))) l h = let s = weights .7 in less 1 (weigh (keptBits byte 8)) (omega arith)
+  kept-sum (suc (suc (suc (suc (suc (suc (suc zero))))))) l h = let s = weights .6 in
+      less 2 (weigh (keptBits byte 7)) (omega arith)
+  kept-sum (suc (suc (suc (suc (suc (suc (suc (suc zero)))))))) l h = let s = weights .7 in
+      less 1 (weigh (keptBits byte 8)) (omega arith)
   kept-sum (suc (suc (suc (suc (suc (suc (suc (suc (suc k))))))))) l h = absurd (omega arith)
 
 -- a byte of the packed sheet is that of the raster, without the bits beyond the frame
 module _ (width : ℕ) (raster : List ℕ) (row k kept : ℕ) (in-row : k < rowBytes width) (bits : kept ≡ min (width - k * 8) 8) where
-  bit-kept : (byte : ℕ) → byte ≡ getD raster (row * rowBytes width + k) 0 → (i : ℕ) → i < 8 → cond (ltb (k * 8 + i) width) (pixel width raster row (k * 8 + i)) 0 ≡ keptBits byte kept i
+  bit-kept : (byte : ℕ) → byte ≡ getD raster (row * rowBytes width + k) 0 → (i : ℕ) → i < 8
+      → cond (ltb (k * 8 + i) width) (pixel width raster row (k * 8 + i)) 0 ≡ keptBits byte kept i
   unfolding pixel
   bit-kept byte e i l = go (decLt i kept)
     where
-      go : Dec (i < kept) → cond (ltb (k * 8 + i) width) (bit (getD raster (row * rowBytes width + (k * 8 + i) / 8) 0) ((k * 8 + i) % 8)) 0 ≡ keptBits byte kept i
+      go : Dec (i < kept) → cond (ltb (k * 8 + i) width)
+          (bit (getD raster (row * rowBytes width + (k * 8 + i) / 8) 0) ((k * 8 + i) % 8)) 0 ≡ keptBits byte kept i
       go (yes b) =
           let q : (k * 8 + i) / 8 ≡ k = omega arith in
           let r : (k * 8 + i) % 8 ≡ i = omega arith in
           rw (lt-ltb (k * 8 + i) width (omega arith), lt-ltb i kept b, q, r, e)
       go (no b) = rw (le-ltb (k * 8 + i) width (omega arith), le-ltb i kept (omega arith))
 
-  pub packed-byte : (byte : ℕ) → byte ≡ getD raster (row * rowBytes width + k) 0 → byte < 256 → packedByte width (pixel width raster row) k ≡ byte - byte % 2 ^ (8 - kept)
-  packed-byte byte e b = packed-weigh width (pixel width raster row) k (keptBits byte kept) (bit-kept byte e) ∙ kept-sum byte b kept (omega arith) (omega arith)
+  pub packed-byte : (byte : ℕ) → byte ≡ getD raster (row * rowBytes width + k) 0 → byte < 256
+      → packedByte width (pixel width raster row) k ≡ byte - byte % 2 ^ (8 - kept)
+  packed-byte byte e b = packed-weigh width (pixel width raster row) k (keptBits byte kept) (bit-kept byte e)
+      ∙ kept-sum byte b kept (omega arith) (omega arith)
 
 -- NOTHING BUT THE PIXELS OF THE FRAME IS IN A PACKED SHEET
-pub packed-same : (width height : ℕ) (pixels pixels′ : ℕ → ℕ → ℕ) → ((row col : ℕ) → row < height → col < width → pixels row col ≡ pixels′ row col) → packed width height pixels ≡ packed width height pixels′
+pub packed-same : (width height : ℕ) (pixels pixels′ : ℕ → ℕ → ℕ)
+    → ((row col : ℕ) → row < height → col < width → pixels row col ≡ pixels′ row col)
+    → packed width height pixels ≡ packed width height pixels′
 unfolding packed raster packedByte
 packed-same width height pixels pixels′ same =
-    table-same (λ k. packedByte width (pixels (k / rowBytes width)) (k % rowBytes width)) (λ k. packedByte width (pixels′ (k / rowBytes width)) (k % rowBytes width)) (height * rowBytes width)
+    table-same (λ k. packedByte width (pixels (k / rowBytes width)) (k % rowBytes width))
+    (λ k. packedByte width (pixels′ (k / rowBytes width)) (k % rowBytes width)) (height * rowBytes width)
     (λ k l.
     let row = k / rowBytes width in
     let col = k % rowBytes width in
-    packed-weigh width (pixels row) col (λ i. cond (ltb (col * 8 + i) width) (pixels′ row (col * 8 + i)) 0) (λ i _. go row (col * 8 + i) (row-below (rowBytes width) height k l) (ltb (col * 8 + i) width) refl))
+    packed-weigh width (pixels row) col (λ i. cond (ltb (col * 8 + i) width) (pixels′ row (col * 8 + i)) 0)
+    (λ i _. go row (col * 8 + i) (row-below (rowBytes width) height k l) (ltb (col * 8 + i) width) refl))
   where
     go : (row col : ℕ) → row < height → (t : Bool) → ltb col width ≡ t → cond t (pixels row col) 0 ≡ cond t (pixels′ row col) 0
     go row col a true e = same row col a (ltb-true col width e)
@@ -102,10 +130,12 @@ module _ (width height : ℕ) (sheet : List ℕ) where
   unfolding cleared
   length-cleared = length-packed width height (pixel width sheet)
 
-  pub pixel-cleared : (row col : ℕ) → row < height → col < width → pixel width (cleared width height sheet) row col ≡ pixel width sheet row col
+  pub pixel-cleared : (row col : ℕ) → row < height → col < width
+      → pixel width (cleared width height sheet) row col ≡ pixel width sheet row col
   unfolding cleared
   pixel-cleared = pixel-packed width height (pixel width sheet) (λ row col _ _. pixel-binary width sheet row col)
 
   pub cleared-twice : cleared width height (cleared width height sheet) ≡ cleared width height sheet
   unfolding cleared
-  cleared-twice = packed-same width height (pixel width (packed width height (pixel width sheet))) (pixel width sheet) pixel-cleared
+  cleared-twice = packed-same width height (pixel width (packed width height (pixel width sheet)))
+      (pixel width sheet) pixel-cleared

@@ -1,4 +1,5 @@
--- Rows of bytes of one kind. The run at the front of a list ends with the list, and at a byte of another kind; so what is all of one kind, with such an end
+-- Rows of bytes of one kind. The run at the front of a list ends with the list, and at a byte of another kind; so what is all of
+-- one kind, with such an end
 -- after it, is the run. A loop that goes along the run stands before the same end at each turn.
 use Prim.Native.Nat.{ℕ, suc, _+_, _≤_, _<_}
 use native.Mathlib.Numerals.{add-one}
@@ -36,7 +37,8 @@ module _ (kind : ℕ → Bool) where
   run-append (byte ∷ row) rest e s = let p = both (kind byte) (all kind row) e in rw (p .0, run-append row rest (p .1) s)
 
   -- a row that begins with a byte of another kind
-  pub run-other : (other : ℕ → Bool) → ((byte : ℕ) → other byte ≡ true → kind byte ≡ false) → (row rest : List ℕ) → row ≢ [] → all other row ≡ true → run kind (row ++ rest) ≡ []
+  pub run-other : (other : ℕ → Bool) → ((byte : ℕ) → other byte ≡ true → kind byte ≡ false) → (row rest : List ℕ) → row ≢ []
+      → all other row ≡ true → run kind (row ++ rest) ≡ []
   unfolding all
   run-other other apart [] rest n e = absurd (n refl)
   run-other other apart (byte ∷ row) rest n e = run-stops byte (row ++ rest) (apart byte (both (other byte) (all other row) e .0))
@@ -62,17 +64,20 @@ module _ (kind : ℕ → Bool) where
       go false e ih = refl
 
   -- a run that is not empty begins with its first byte
-  pub run-some : (bytes : List ℕ) → isNone (run kind bytes) ≡ false → (kind (getD bytes 0 0) ≡ true) × (bytes ≡ getD bytes 0 0 ∷ drop 1 bytes)
+  pub run-some : (bytes : List ℕ) → isNone (run kind bytes) ≡ false
+      → (kind (getD bytes 0 0) ≡ true) × (bytes ≡ getD bytes 0 0 ∷ drop 1 bytes)
   unfolding run
   run-some [] e = absurd (eqb-false 0 0 e refl)
   run-some (byte ∷ rest) e = go (kind byte) refl e
     where
-      go : (b : Bool) → kind byte ≡ b → isNone (cond b (byte ∷ run kind rest) []) ≡ false → (kind byte ≡ true) × (byte ∷ rest ≡ byte ∷ rest)
+      go : (b : Bool) → kind byte ≡ b → isNone (cond b (byte ∷ run kind rest) []) ≡ false
+          → (kind byte ≡ true) × (byte ∷ rest ≡ byte ∷ rest)
       go true p e = (p, refl)
       go false p e = absurd (eqb-false 0 0 e refl)
 
   pub run-short : (bytes : List ℕ) → length (run kind bytes) ≤ length bytes
-  run-short bytes = let e = ap length (run-front bytes) ∙ length-append (run kind bytes) (drop (length (run kind bytes)) bytes) in omega arith
+  run-short bytes = let e = ap length (run-front bytes) ∙ length-append (run kind bytes) (drop (length (run kind bytes)) bytes) in
+      omega arith
 
   -- is there a run at a place? At the end there is none, and before it the byte there decides
   pub run-none : (file : List ℕ) (at : ℕ) → length file ≤ at → isNone (run kind (drop at file)) ≡ true
@@ -82,7 +87,11 @@ module _ (kind : ℕ → Bool) where
   run-there file at l = go (kind (getD file at 0)) refl
     where
       go : (b : Bool) → kind (getD file at 0) ≡ b → b ≡ not (isNone (run kind (drop at file)))
-      go true e = rw (drop-cons file at 0 l, run-more (getD file at 0) (drop (suc at) file) e, ne-eqb (suc (length (run kind (drop (suc at) file)))) 0 (λ z. omega arith))
+      go true e = rw (
+        drop-cons file at 0 l,
+        run-more (getD file at 0) (drop (suc at) file) e,
+        ne-eqb (suc (length (run kind (drop (suc at) file)))) 0 (λ z. omega arith),
+      )
       go false e = rw (drop-cons file at 0 l, run-stops (getD file at 0) (drop (suc at) file) e)
 
 -- digits are such rows
@@ -114,12 +123,15 @@ skipping-start kind file at l = record { within = l; place = refl }
 module _ {kind : ℕ → Bool} {file : List ℕ} {at i : ℕ} (h : Skipping kind file at i) where
   pub skipping-turn : i < length file → kind (getD file i 0) ≡ true → Skipping kind file at (i + 1)
   skipping-turn l e =
-      let r : run kind (drop i file) ≡ getD file i 0 ∷ run kind (drop (i + 1) file) = ap (run kind) (drop-cons file i 0 l) ∙ run-more kind (getD file i 0) (drop (suc i) file) e ∙ ap (λ k. getD file i 0 ∷ run kind (drop k file)) (sym (add-one i)) in
+      let r : run kind (drop i file) ≡ getD file i 0 ∷ run kind (drop (i + 1) file) = ap (run kind) (drop-cons file i 0 l)
+      ∙ run-more kind (getD file i 0) (drop (suc i) file) e
+      ∙ ap (λ k. getD file i 0 ∷ run kind (drop k file)) (sym (add-one i)) in
       let s = ap length r in
       record { within = omega arith; place = omega arith }
 
   pub skipping-stop : i < length file → kind (getD file i 0) ≡ false → i ≡ at + length (run kind (drop at file))
-  skipping-stop l e = let s = ap length (ap (run kind) (drop-cons file i 0 l) ∙ run-stops kind (getD file i 0) (drop (suc i) file) e) in omega arith
+  skipping-stop l e = let s =
+      ap length (ap (run kind) (drop-cons file i 0 l) ∙ run-stops kind (getD file i 0) (drop (suc i) file) e) in omega arith
 
   pub skipping-end : length file ≤ i → i ≡ at + length (run kind (drop at file))
   skipping-end l = let s = ap length (ap (run kind) (drop-of-length-le file l) ∙ run-end kind) in omega arith

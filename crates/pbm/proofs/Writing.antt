@@ -1,4 +1,5 @@
--- Writing: the header in its pieces and the raster after it make the text at the front of the output; then each answer of the call.
+-- Writing: the header in its pieces and the raster after it make the text at the front of the output; then each answer of the
+-- call.
 use Prim.Native.Nat.{ℕ, _+_, _-_, _*_, _≤_, _<_}
 use native.Mathlib.Omega.{arith}
 use mathlib.Core.Path.{_≡_, sym, ap, ap₂, _∙_}
@@ -8,13 +9,14 @@ use lib.ListN.{length, take, drop, length-append, length-drop}
 use borrow.Author.Tests.{lt-ltb, le-ltb}
 use borrow.Rule.Slice.PartMut.{putMid}
 use Rattle.basics.specs.Refusals.{first}
-use Rattle.basics.proofs.RefusalLaws.{first-refused, first-accepted, refuses, accepts, answers-unique}
+use Rattle.basics.proofs.RefusalLaws.{first-refused, first-accepted, refuses, accepts, rule-unique}
 use Rattle.decimal.specs.Numbers.{digits}
 use Rattle.decimal.proofs.NumberLaws.{length-below}
 use Rattle.sheet.specs.Sheets.{rowBytes, sheetRefusals}
 use Rattle.sheet.proofs.FrameLaws.{frame-sides, raster-small, sheet-accepted}
 use Rattle.text.specs.Writing.{begun, Wrote}
-use Rattle.text.proofs.WroteLaws.{fits-as, room-first, room-second, wrote-both, wrote-as, wrote-length, wrote-front, wrote-part, part-is}
+use Rattle.text.proofs.WroteLaws.{fits-as, room-first, room-second, wrote-both, wrote-as, wrote-length, wrote-front, wrote-part}
+use Rattle.text.proofs.WroteLaws.{part-is}
 use Rattle.pbm.specs.Pbm.{cleared, headerText, pbmText, roomRefusals, WritesPbm}
 use Rattle.pbm.proofs.PackingLaws.{length-cleared}
 
@@ -35,7 +37,8 @@ header-pieces width height = simp append-assoc
 
 module _ (width height : ℕ) (out : List ℕ) (fits : length (headerText width height) ≤ length out) where
   room : 0 + length (sides width height ++ (10 ∷ [])) ≤ length out
-  room = fits-as (sides width height ++ (10 ∷ [])) (headerText width height) 0 (length out) (header-pieces width height) (omega arith)
+  room = fits-as (sides width height ++ (10 ∷ [])) (headerText width height) 0 (length out) (header-pieces width height)
+      (omega arith)
 
   pub sides-room : 0 + length (sides width height) ≤ length out
   sides-room = room-first (sides width height) (10 ∷ []) 0 out room
@@ -45,21 +48,26 @@ module _ (width height : ℕ) (out : List ℕ) (fits : length (headerText width 
     end-room = room-second (sides width height) (10 ∷ []) 0 out room p
 
     pub header-wrote : {c : List ℕ} {n : ℕ} → Wrote (10 ∷ []) m b c n → Wrote (headerText width height) 0 out c n
-    header-wrote q = wrote-as (sides width height ++ (10 ∷ [])) (headerText width height) (header-pieces width height) (wrote-both (sides width height) (10 ∷ []) 0 out room p q)
+    header-wrote q = wrote-as (sides width height ++ (10 ∷ [])) (headerText width height) (header-pieces width height)
+        (wrote-both (sides width height) (10 ∷ []) 0 out room p q)
 
 -- the size, from the counts of digits
-pub sizes : (width height widthCount heightCount : ℕ) (sheet : List ℕ) → widthCount ≡ length (digits width) → heightCount ≡ length (digits height)
+pub sizes : (width height widthCount heightCount : ℕ) (sheet : List ℕ) → widthCount ≡ length (digits width)
+    → heightCount ≡ length (digits height)
     → 5 + widthCount + heightCount + length sheet ≡ 5 + length (digits width) + length (digits height) + length sheet
 sizes width height widthCount heightCount sheet a b = omega arith
 
 module _ (width height : ℕ) (sheet out : List ℕ) where
   -- NO SECOND OUTCOME
-  pub write-unique : (m n size size′ : ℕ) (x y : List ℕ) → WritesPbm width height sheet out m size x → WritesPbm width height sheet out n size′ y → (m ≡ n) × (_≡_ {A = ℕ × List ℕ} (size, x) (size′, y))
-  write-unique m n size size′ x y = answers-unique (λ a b p q. p ∙ sym q) m n (size, x) (size′, y)
+  pub write-unique : (m n size size′ : ℕ) (x y : List ℕ) → WritesPbm width height sheet out m size x
+      → WritesPbm width height sheet out n size′ y → (m ≡ n) × (_≡_ {A = ℕ × List ℕ} (size, x) (size′, y))
+  write-unique m n size size′ x y = rule-unique m n (size, x) (size′, y)
 
   module _ (number : ℕ) (e : number ≡ first (sheetRefusals width height sheet)) where
     pub sheet-refuses : number ≢ 0 → WritesPbm width height sheet out number 0 out
-    sheet-refuses n = refuses number n (e ∙ sym (first-refused (sheetRefusals width height sheet) (roomRefusals (length (pbmText width height sheet)) out) (λ z. n (e ∙ z))))
+    sheet-refuses n = refuses number n
+        (e ∙ sym (first-refused (sheetRefusals width height sheet) (roomRefusals (length (pbmText width height sheet)) out)
+        (λ z. n (e ∙ z))))
 
     module _ (z : number ≡ 0) where
       sheet-size : length sheet ≡ height * rowBytes width
@@ -86,11 +94,15 @@ module _ (width height : ℕ) (sheet out : List ℕ) where
             let q = sheet-size in
             omega arith
 
-        room-left : first (sheetRefusals width height sheet ++ roomRefusals (length (pbmText width height sheet)) out) ≡ first (roomRefusals (length (pbmText width height sheet)) out)
-        room-left = first-accepted (sheetRefusals width height sheet) (roomRefusals (length (pbmText width height sheet)) out) tt (sym e ∙ z)
+        room-left : first (sheetRefusals width height sheet ++ roomRefusals (length (pbmText width height sheet)) out)
+            ≡ first (roomRefusals (length (pbmText width height sheet)) out)
+        room-left = first-accepted (sheetRefusals width height sheet) (roomRefusals (length (pbmText width height sheet)) out) tt
+            (sym e ∙ z)
 
         pub write-room-refuses : length out < size → WritesPbm width height sheet out 11 0 out
-        write-room-refuses l = let q = size-is in refuses 11 (λ n. omega arith) (sym (room-left ∙ rw (lt-ltb (length out) (length (pbmText width height sheet)) (omega arith))))
+        write-room-refuses l = let q = size-is in
+            refuses 11 (λ n. omega arith)
+            (sym (room-left ∙ rw (lt-ltb (length out) (length (pbmText width height sheet)) (omega arith))))
 
         module _ (l : size ≤ length out) where
           pub header-room : length (headerText width height) ≤ length out
@@ -116,11 +128,14 @@ module _ (width height : ℕ) (sheet out : List ℕ) where
                 let q = sheet-size in
                 omega arith
 
-            pub write-accepts : (part : List ℕ) → part ≡ begun (cleared width height sheet) (take (length now - at) (drop at now)) → WritesPbm width height sheet out 0 size (putMid at (length now - at) now part)
+            pub write-accepts : (part : List ℕ) → part ≡ begun (cleared width height sheet) (take (length now - at) (drop at now))
+                → WritesPbm width height sheet out 0 size (putMid at (length now - at) now part)
             unfolding pbmText
             write-accepts part q =
                 let o = size-is in
                 let r : 0 + length (headerText width height ++ cleared width height sheet) ≤ length out = omega arith in
-                let w = wrote-both (headerText width height) (cleared width height sheet) 0 out r h (wrote-part (cleared width height sheet) part now at q) in
-                accepts (size, putMid at (length now - at) now part) (room-left ∙ rw (le-ltb (length out) (length (pbmText width height sheet)) (omega arith)))
+                let w = wrote-both (headerText width height) (cleared width height sheet) 0 out r h
+                (wrote-part (cleared width height sheet) part now at q) in
+                accepts (size, putMid at (length now - at) now part)
+                (room-left ∙ rw (le-ltb (length out) (length (pbmText width height sheet)) (omega arith)))
                 (ap₂ (λ n text. (n, text)) size-is (wrote-front w .1))

@@ -1,4 +1,5 @@
--- The header of a raw PBM file, as Netpbm's page has it, narrowed by document 01: "P4", one or more white bytes, the width, one or more white bytes,
+-- The header of a raw PBM file, as Netpbm's page has it, narrowed by document 01: "P4", one or more white bytes, the width, one
+-- or more white bytes,
 -- the height, exactly one white byte; what follows is the raster. No remarks: "#" breaks a header as any other byte does.
 use Prim.Native.Nat.{ℕ}
 use mathlib.Core.Path.{_≡_}
@@ -42,7 +43,8 @@ pub data Field : Type 0 where
 
 unfoldable pub field : List ℕ → Field
 field bytes =
-    cond (isNone (whiteRun bytes) || isNone (digitRun (afterWhite bytes))) missing (number (value (digitRun (afterWhite bytes))) (afterDigits (afterWhite bytes)))
+    cond (isNone (whiteRun bytes) || isNone (digitRun (afterWhite bytes))) missing
+    (number (value (digitRun (afterWhite bytes))) (afterDigits (afterWhite bytes)))
 
 unfoldable pub beginsP4 : List ℕ → Bool
 beginsP4 file = eqb (getD file 0 0) 80 && eqb (getD file 1 0) 52

@@ -29,7 +29,8 @@ headerRefusals file = (21, not (beginsP4 file)) ∷ (22, isBroken (header file))
 
 -- 23 and 24, of the raster; 11, of the room
 abbrev pub rasterRefusals : ℕ → ℕ → List ℕ → List Refusal
-rasterRefusals width height raster = (23, ltb (length raster) (height * rowBytes width)) ∷ (24, ltb (height * rowBytes width) (length raster)) ∷ []
+rasterRefusals width height raster = (23, ltb (length raster) (height * rowBytes width)) ∷
+    (24, ltb (height * rowBytes width) (length raster)) ∷ []
 
 abbrev pub roomRefusals : ℕ → List ℕ → List Refusal
 roomRefusals size room = (11, ltb (length room) size) ∷ []
@@ -48,7 +49,11 @@ readAnswer (whole width height raster) out = (width, height, begun (cleared widt
 
 abbrev pub ReadsPbm : List ℕ → List ℕ → ℕ → ℕ → ℕ → List ℕ → Type 0
 ReadsPbm file out number width height after =
-    Answers {A = ℕ × ℕ × List ℕ} (readRefusals file out) (0, 0, out) (λ answer. answer ≡ readAnswer (header file) out) number (width, height, after)
+    Answers {A = ℕ × ℕ × List ℕ} (readRefusals file out) (
+      0,
+      0,
+      out,
+    ) (λ answer. answer ≡ readAnswer (header file) out) number (width, height, after)
 
 -- WRITING. "P4", LF, width, blank, height, LF, and the raster with padding 0
 unfoldable pub headerText : ℕ → ℕ → List ℕ
@@ -58,7 +63,8 @@ unfoldable pub pbmText : ℕ → ℕ → List ℕ → List ℕ
 pbmText width height sheet = headerText width height ++ cleared width height sheet
 
 abbrev pub writeRefusals : ℕ → ℕ → List ℕ → List ℕ → List Refusal
-writeRefusals width height sheet room = sheetRefusals width height sheet ++ roomRefusals (length (pbmText width height sheet)) room
+writeRefusals width height sheet room = sheetRefusals width height sheet ++
+    roomRefusals (length (pbmText width height sheet)) room
 
 -- the length, and the text in the output's first bytes
 abbrev pub WritesPbm : ℕ → ℕ → List ℕ → List ℕ → ℕ → ℕ → List ℕ → Type 0

@@ -196,7 +196,8 @@ fn left_after(left: usize, row: usize) -> usize
 
 // Copies the bytes of a frame's raster to the front of `out`, padding cleared.
 fn copy_cleared(width: usize, height: usize, raster: &[u8], out: &mut [u8])
-    requires { ⌜ (width ≤ 4096) × ((height ≤ 4096) × ((height * rowBytes width ≤ length (now raster)) × (height * rowBytes width ≤ length (now out)))) ⌝ }
+    requires { ⌜ (width ≤ 4096) ×
+        ((height ≤ 4096) × ((height * rowBytes width ≤ length (now raster)) × (height * rowBytes width ≤ length (now out)))) ⌝ }
     ensures { λ _. ⌜ now (out .exit) ≡ begun (cleared width height (now (raster .entry))) (now (out .entry)) ⌝ }
 {
     let row = sheet::row_bytes(width);

@@ -1,4 +1,5 @@
--- A frame row's lines are filled. The first of the lines still begins with the number that begins it now, since what stays on it follows a blank.
+-- A frame row's lines are filled. The first of the lines still begins with the number that begins it now, since what stays on it
+-- follows a blank.
 use Prim.Native.Nat.{ℕ, _+_, _<_}
 use mathlib.Core.Path.{_≡_, refl, sym, ap, _∙_}
 use mathlib.Core.Bool.{Bool, true, false, cond}
@@ -34,7 +35,9 @@ unfolding cut endsLine
 filling-last begun u = record { first = begun; others = []; is = cut-piece endsLine 10 [] u refl; filled = last; run = refl }
 
 module _ (begun : List ℕ) (n : ℕ) (rest : List ℕ) where
-  filling-stays : stays (length begun) (length (digits n)) ≡ true → Filling (begun ++ (32 ∷ digits n)) ((begun ++ (32 ∷ digits n)) ++ levelRow (length (begun ++ (32 ∷ digits n))) rest) → Filling begun (begun ++ levelRow (length begun) (n ∷ rest))
+  filling-stays : stays (length begun) (length (digits n)) ≡ true
+      → Filling (begun ++ (32 ∷ digits n)) ((begun ++ (32 ∷ digits n)) ++ levelRow (length (begun ++ (32 ∷ digits n))) rest)
+      → Filling begun (begun ++ levelRow (length begun) (n ∷ rest))
   filling-stays e h = record {
     first = h .first;
     others = h .others;
@@ -43,7 +46,9 @@ module _ (begun : List ℕ) (n : ℕ) (rest : List ℕ) where
     run = h .run ∙ run-before-blank begun (digits n);
   }
 
-  filling-begins : stays (length begun) (length (digits n)) ≡ false → Unbroken begun → Filling (digits n) (digits n ++ levelRow (length (digits n)) rest) → Filling begun (begun ++ levelRow (length begun) (n ∷ rest))
+  filling-begins : stays (length begun) (length (digits n)) ≡ false → Unbroken begun
+      → Filling (digits n) (digits n ++ levelRow (length (digits n)) rest)
+      → Filling begun (begun ++ levelRow (length begun) (n ∷ rest))
   unfolding stays endsLine
   filling-begins e u h =
       let past = leb-false (length begun + 1 + length (digits n)) 70 e in
@@ -64,9 +69,14 @@ rest-filling : (begun rest : List ℕ) → Unbroken begun → Filling begun (beg
 unfolding levelRow
 rest-filling begun [] u = filling-last begun u
 rest-filling begun (n ∷ rest) u =
-    go (stays (length begun) (length (digits n))) refl (rest-filling (begun ++ (32 ∷ digits n)) rest) (rest-filling (digits n) rest)
+    go (stays (length begun) (length (digits n))) refl (rest-filling (begun ++ (32 ∷ digits n)) rest)
+    (rest-filling (digits n) rest)
   where
-    go : (b : Bool) → stays (length begun) (length (digits n)) ≡ b → (Unbroken (begun ++ (32 ∷ digits n)) → Filling (begun ++ (32 ∷ digits n)) ((begun ++ (32 ∷ digits n)) ++ levelRow (length (begun ++ (32 ∷ digits n))) rest)) → (Unbroken (digits n) → Filling (digits n) (digits n ++ levelRow (length (digits n)) rest)) → Filling begun (begun ++ levelRow (length begun) (n ∷ rest))
+    go : (b : Bool) → stays (length begun) (length (digits n)) ≡ b
+        → (Unbroken (begun ++ (32 ∷ digits n))
+        → Filling (begun ++ (32 ∷ digits n)) ((begun ++ (32 ∷ digits n)) ++ levelRow (length (begun ++ (32 ∷ digits n))) rest))
+        → (Unbroken (digits n) → Filling (digits n) (digits n ++ levelRow (length (digits n)) rest))
+        → Filling begun (begun ++ levelRow (length begun) (n ∷ rest))
     go true e on next = filling-stays begun n rest e (on (longer-unbroken begun n rest u))
     go false e on next = filling-begins begun n rest e u (next (digits-unbroken n))
 

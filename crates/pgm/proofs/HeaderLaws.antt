@@ -23,15 +23,19 @@ maximumPiece maximum = (10 ∷ digits maximum) ++ (10 ∷ [])
 remark-pieces : (magic : List ℕ) (done due : ℕ) → magic ++ remarkPiece done due ≡ line magic ++ rowsRemark done due
 remark-pieces magic done due = simp append-assoc
 
-header-pieces : (magic : List ℕ) (done due width height maximum : ℕ) → (line magic ++ rowsRemark done due) ++ (sidesPiece width height ++ maximumPiece maximum) ≡ headerText magic done due width height maximum
+header-pieces : (magic : List ℕ) (done due width height maximum : ℕ)
+    → (line magic ++ rowsRemark done due) ++
+    (sidesPiece width height ++ maximumPiece maximum) ≡ headerText magic done due width height maximum
 unfolding headerText
 header-pieces magic done due width height maximum = simp append-assoc
 
 -- up to the remark
-module _ (magic : List ℕ) (done due at : ℕ) (buffer : List ℕ) (fits : at + length (line magic ++ rowsRemark done due) ≤ length buffer) where
+module _ (magic : List ℕ) (done due at : ℕ) (buffer : List ℕ)
+    (fits : at + length (line magic ++ rowsRemark done due) ≤ length buffer) where
   remark-fits : at + length (magic ++ remarkPiece done due) ≤ length buffer
   remark-fits =
-      fits-as (magic ++ remarkPiece done due) (line magic ++ rowsRemark done due) at (length buffer) (remark-pieces magic done due) fits
+      fits-as (magic ++ remarkPiece done due) (line magic ++ rowsRemark done due) at (length buffer)
+      (remark-pieces magic done due) fits
 
   pub remark-first : at + length magic ≤ length buffer
   remark-first = room-first magic (remarkPiece done due) at buffer remark-fits
@@ -40,13 +44,15 @@ module _ (magic : List ℕ) (done due at : ℕ) (buffer : List ℕ) (fits : at +
     pub remark-second : m + length (remarkPiece done due) ≤ length b
     remark-second = room-second magic (remarkPiece done due) at buffer remark-fits p
 
-    pub remark-wrote : {c : List ℕ} {n : ℕ} → Wrote (remarkPiece done due) m b c n → Wrote (line magic ++ rowsRemark done due) at buffer c n
+    pub remark-wrote : {c : List ℕ} {n : ℕ} → Wrote (remarkPiece done due) m b c n
+        → Wrote (line magic ++ rowsRemark done due) at buffer c n
     remark-wrote q =
         wrote-as (magic ++ remarkPiece done due) (line magic ++ rowsRemark done due) (remark-pieces magic done due)
         (wrote-both magic (remarkPiece done due) at buffer remark-fits p q)
 
 -- the whole
-module _ (magic : List ℕ) (done due width height maximum at : ℕ) (buffer : List ℕ) (fits : at + length (headerText magic done due width height maximum) ≤ length buffer) where
+module _ (magic : List ℕ) (done due width height maximum at : ℕ) (buffer : List ℕ)
+    (fits : at + length (headerText magic done due width height maximum) ≤ length buffer) where
   abbrev front : List ℕ
   front = line magic ++ rowsRemark done due
 
@@ -55,7 +61,8 @@ module _ (magic : List ℕ) (done due width height maximum at : ℕ) (buffer : L
 
   header-fits : at + length (front ++ rest) ≤ length buffer
   header-fits =
-      fits-as (front ++ rest) (headerText magic done due width height maximum) at (length buffer) (header-pieces magic done due width height maximum) fits
+      fits-as (front ++ rest) (headerText magic done due width height maximum) at (length buffer)
+      (header-pieces magic done due width height maximum) fits
 
   pub header-first : at + length (line magic ++ rowsRemark done due) ≤ length buffer
   header-first = room-first front rest at buffer header-fits
@@ -64,7 +71,9 @@ module _ (magic : List ℕ) (done due width height maximum at : ℕ) (buffer : L
     pub header-second : m + length (sidesPiece width height ++ maximumPiece maximum) ≤ length b
     header-second = room-second front rest at buffer header-fits p
 
-    pub header-wrote : {c : List ℕ} {n : ℕ} → Wrote (sidesPiece width height ++ maximumPiece maximum) m b c n → Wrote (headerText magic done due width height maximum) at buffer c n
+    pub header-wrote : {c : List ℕ} {n : ℕ} → Wrote (sidesPiece width height ++ maximumPiece maximum) m b c n
+        → Wrote (headerText magic done due width height maximum) at buffer c n
     header-wrote q =
-        wrote-as (front ++ rest) (headerText magic done due width height maximum) (header-pieces magic done due width height maximum)
+        wrote-as (front ++ rest) (headerText magic done due width height maximum)
+        (header-pieces magic done due width height maximum)
         (wrote-both front rest at buffer header-fits p q)

@@ -10,7 +10,8 @@ use Rattle.pgm.specs.PgmText.{frameRow, levelsText}
 use Rattle.text.specs.Writing.{Wrote}
 use Rattle.text.proofs.WroteLaws.{wrote-more, wrote-length, wrote-as, wrote-none}
 
-pub record LevelsWriting (width height : ℕ) (levels : List ℕ) (at : ℕ) (buffer : List ℕ) (end from i : ℕ) (out : List ℕ) : Type 0 where
+pub record LevelsWriting (width height : ℕ) (levels : List ℕ) (at : ℕ) (buffer : List ℕ) (end from i : ℕ)
+    (out : List ℕ) : Type 0 where
   pub text : List ℕ
   pub wrote : Wrote text at buffer out end
   pub whole : text ++ levelsText width (height - i) (drop from levels) ≡ levelsText width height levels
@@ -21,7 +22,8 @@ pub record LevelsWriting (width height : ℕ) (levels : List ℕ) (at : ℕ) (bu
 all : (height : ℕ) → height - 0 ≡ height
 all height = omega arith
 
-pub levels-start : (width height : ℕ) (levels : List ℕ) (at : ℕ) (buffer : List ℕ) → length levels ≡ height * width → at + length (levelsText width height levels) ≤ length buffer → LevelsWriting width height levels at buffer at 0 0 buffer
+pub levels-start : (width height : ℕ) (levels : List ℕ) (at : ℕ) (buffer : List ℕ) → length levels ≡ height * width
+    → at + length (levelsText width height levels) ≤ length buffer → LevelsWriting width height levels at buffer at 0 0 buffer
 levels-start width height levels at buffer e l = record {
   text = [];
   wrote = wrote-none at buffer;
@@ -31,9 +33,11 @@ levels-start width height levels at buffer e l = record {
   left = let z = ap (λ n. n * width) (all height) in omega arith;
 }
 
-module _ {width height : ℕ} {levels : List ℕ} {at : ℕ} {buffer : List ℕ} {end from i : ℕ} {out : List ℕ} (h : LevelsWriting width height levels at buffer end from i out) where
+module _ {width height : ℕ} {levels : List ℕ} {at : ℕ} {buffer : List ℕ} {end from i : ℕ} {out : List ℕ}
+    (h : LevelsWriting width height levels at buffer end from i out) where
   text-fits : at + length (h .text) ≤ length buffer
-  text-fits = let a = length-append (h .text) (levelsText width (height - i) (drop from levels)) in let w = ap length (h .whole) in let r = h .room in omega arith
+  text-fits = let a = length-append (h .text) (levelsText width (height - i) (drop from levels)) in
+      let w = ap length (h .whole) in let r = h .room in omega arith
 
   pub levels-same : length out ≡ length buffer
   levels-same = wrote-length (h .text) at buffer out end text-fits (h .wrote)
@@ -48,11 +52,13 @@ module _ {width height : ℕ} {levels : List ℕ} {at : ℕ} {buffer : List ℕ}
   one-more : i < height → height - i ≡ suc (height - (i + 1))
   one-more l = omega arith
 
-  split : i < height → (h .text ++ frameRow row) ++ levelsText width (height - (i + 1)) (drop (from + width) levels) ≡ levelsText width height levels
+  split : i < height → (h .text ++ frameRow row) ++
+      levelsText width (height - (i + 1)) (drop (from + width) levels) ≡ levelsText width height levels
   unfolding levelsText
   split l =
       append-assoc (h .text) (frameRow row) (levelsText width (height - (i + 1)) (drop (from + width) levels))
-      ∙ ap₂ (λ here rest. h .text ++ (frameRow here ++ levelsText width (height - (i + 1)) rest)) row-is (sym (drop-drop width from levels))
+      ∙ ap₂ (λ here rest. h .text ++ (frameRow here ++ levelsText width (height - (i + 1)) rest)) row-is
+      (sym (drop-drop width from levels))
       ∙ ap (λ n. h .text ++ levelsText width n (drop from levels)) (sym (one-more l))
       ∙ h .whole
 
@@ -81,7 +87,9 @@ module _ {width height : ℕ} {levels : List ℕ} {at : ℕ} {buffer : List ℕ}
       let r = h .room in
       omega arith
 
-  pub levels-turn : (later : List ℕ) (next : ℕ) → i < height → Wrote (frameRow (take (from + width - from) (drop from levels))) end out later next → LevelsWriting width height levels at buffer next (from + width) (i + 1) later
+  pub levels-turn : (later : List ℕ) (next : ℕ) → i < height
+      → Wrote (frameRow (take (from + width - from) (drop from levels))) end out later next
+      → LevelsWriting width height levels at buffer next (from + width) (i + 1) later
   levels-turn later next l p = record {
     text = h .text ++ frameRow row;
     wrote = wrote-more (h .text) (frameRow row) at buffer out later end next text-fits (h .wrote) p;

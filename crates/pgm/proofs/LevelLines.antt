@@ -1,4 +1,5 @@
--- The lines of the text. Each line ends in a number, so in no blank, and within a frame row a number goes on only where the line stays short.
+-- The lines of the text. Each line ends in a number, so in no blank, and within a frame row a number goes on only where the line
+-- stays short.
 use Prim.Native.Nat.{ℕ, zero, suc, _+_, _-_, _≤_, _<_}
 use native.Mathlib.Omega.{arith}
 use mathlib.Core.Path.{_≡_, refl, sym, ap, ap₂, _∙_}
@@ -13,7 +14,8 @@ use Rattle.decimal.proofs.NumberLaws.{digits-digit, digits-some, digit-bounds}
 use Rattle.pgm.specs.Lines.{Every, none, more, endsLine, lines, unlines, ShortLine}
 use Rattle.pgm.specs.PgmText.{rowsRemark, headerText, stays, levelRow, frameRow, levelsText}
 use Rattle.pgm.specs.Writing.{Small, SmallNumbers}
-use Rattle.pgm.proofs.LineLaws.{Unbroken, every-append, every-take, every-drop, every-of, Lined, lines-unlines, lined-none, lined-more, lined-as, lined-append}
+use Rattle.pgm.proofs.LineLaws.{Unbroken, every-append, every-take, every-drop, every-of, Lined, lines-unlines, lined-none}
+use Rattle.pgm.proofs.LineLaws.{lined-more, lined-as, lined-append}
 use Rattle.pgm.proofs.RowLaws.{parting-stays, parting-begins, after-stays, after-begins}
 use Rattle.pgm.proofs.SizeLaws.{five}
 
@@ -55,17 +57,22 @@ module _ (begun : List ℕ) (n : ℕ) (rest : List ℕ) where
   abbrev longer : List ℕ
   longer = begun ++ (32 ∷ digits n)
 
-  pub text-stays : stays (length begun) (length (digits n)) ≡ true → (begun ++ (32 ∷ digits n)) ++ levelRow (length (begun ++ (32 ∷ digits n))) rest ≡ begun ++ levelRow (length begun) (n ∷ rest)
+  pub text-stays : stays (length begun) (length (digits n)) ≡ true
+      → (begun ++ (32 ∷ digits n)) ++ levelRow (length (begun ++ (32 ∷ digits n))) rest ≡ begun ++
+      levelRow (length begun) (n ∷ rest)
   unfolding levelRow
   text-stays e =
       let k : length longer ≡ length begun + 1 + length (digits n) = let a = length-append begun (32 ∷ digits n) in omega arith in
       append-assoc begun (32 ∷ digits n) (levelRow (length longer) rest)
-      ∙ ap₂ (λ byte column. begun ++ (byte ∷ (digits n ++ levelRow column rest))) (parting-stays (length begun) (length (digits n)) e) (k ∙ after-stays (length begun) (length (digits n)) e)
+      ∙ ap₂ (λ byte column. begun ++ (byte ∷ (digits n ++ levelRow column rest)))
+      (parting-stays (length begun) (length (digits n)) e) (k ∙ after-stays (length begun) (length (digits n)) e)
 
-  pub text-begins : stays (length begun) (length (digits n)) ≡ false → begun ++ (10 ∷ (digits n ++ levelRow (length (digits n)) rest)) ≡ begun ++ levelRow (length begun) (n ∷ rest)
+  pub text-begins : stays (length begun) (length (digits n)) ≡ false
+      → begun ++ (10 ∷ (digits n ++ levelRow (length (digits n)) rest)) ≡ begun ++ levelRow (length begun) (n ∷ rest)
   unfolding levelRow
   text-begins e =
-      ap₂ (λ byte column. begun ++ (byte ∷ (digits n ++ levelRow column rest))) (parting-begins (length begun) (length (digits n)) e) (after-begins (length begun) (length (digits n)) e)
+      ap₂ (λ byte column. begun ++ (byte ∷ (digits n ++ levelRow column rest)))
+      (parting-begins (length begun) (length (digits n)) e) (after-begins (length begun) (length (digits n)) e)
 
   pub longer-unbroken : Unbroken begun → Unbroken (begun ++ (32 ∷ digits n))
   unfolding endsLine
@@ -79,13 +86,19 @@ module _ (begun : List ℕ) (n : ℕ) (rest : List ℕ) where
       rw append-assoc at (number-line (begun ++ (32 ∷ [])) n (omega arith))
 
 -- the rest of a frame row after a line begun
-rest-lined : (begun : List ℕ) {rest : List ℕ} → Unbroken begun → ShortLine begun → Small rest → Lined (begun ++ levelRow (length begun) rest)
+rest-lined : (begun : List ℕ) {rest : List ℕ} → Unbroken begun → ShortLine begun → Small rest
+    → Lined (begun ++ levelRow (length begun) rest)
 unfolding levelRow
 rest-lined begun u s none = lined-more begun [] u s lined-none
 rest-lined begun {rest = n ∷ rest} u s (more l h) =
-    go (stays (length begun) (length (digits n))) refl (λ v t. rest-lined (begun ++ (32 ∷ digits n)) v t h) (λ v t. rest-lined (digits n) v t h)
+    go (stays (length begun) (length (digits n))) refl (λ v t. rest-lined (begun ++ (32 ∷ digits n)) v t h)
+    (λ v t. rest-lined (digits n) v t h)
   where
-    go : (b : Bool) → stays (length begun) (length (digits n)) ≡ b → (Unbroken (longer begun n rest) → ShortLine (longer begun n rest) → Lined (longer begun n rest ++ levelRow (length (longer begun n rest)) rest)) → (Unbroken (digits n) → ShortLine (digits n) → Lined (digits n ++ levelRow (length (digits n)) rest)) → Lined (begun ++ levelRow (length begun) (n ∷ rest))
+    go : (b : Bool) → stays (length begun) (length (digits n)) ≡ b
+        → (Unbroken (longer begun n rest) → ShortLine (longer begun n rest)
+        → Lined (longer begun n rest ++ levelRow (length (longer begun n rest)) rest))
+        → (Unbroken (digits n) → ShortLine (digits n) → Lined (digits n ++ levelRow (length (digits n)) rest))
+        → Lined (begun ++ levelRow (length begun) (n ∷ rest))
     go true e on next = lined-as (text-stays begun n rest e) (on (longer-unbroken begun n rest u) (longer-short begun n rest e))
     go false e on next =
         lined-as (text-begins begun n rest e)
@@ -112,7 +125,8 @@ module _ (done due width height maximum : ℕ) (s : SmallNumbers done due width 
       let front : List ℕ = word ++ (digits done ++ (32 ∷ 111 ∷ 102 ∷ 32 ∷ [])) in
       let f = length-append (digits done) (32 ∷ 111 ∷ 102 ∷ 32 ∷ []) in
       let n = number-line front due (omega arith) in (
-        every-append (more refl (more refl (more refl (more refl (more refl (more refl (more refl none))))))) (every-append (digits-unbroken done) (more refl (more refl (more refl (more refl (digits-unbroken due)))))),
+        every-append (more refl (more refl (more refl (more refl (more refl (more refl (more refl none)))))))
+            (every-append (digits-unbroken done) (more refl (more refl (more refl (more refl (digits-unbroken due)))))),
         (rw (append-assoc (digits done) (32 ∷ 111 ∷ 102 ∷ 32 ∷ []) (digits due)) at n),
       )
 
@@ -121,8 +135,10 @@ module _ (done due width height maximum : ℕ) (s : SmallNumbers done due width 
   sides-line =
       let a = five width (s .small-width) in
       let b = five height (s .small-height) in
-      let f = length-append (digits width) (32 ∷ []) in
-      (every-append (digits-unbroken width) (more refl (digits-unbroken height)), (rw append-assoc at (number-line (digits width ++ (32 ∷ [])) height (omega arith))))
+      let f = length-append (digits width) (32 ∷ []) in (
+        every-append (digits-unbroken width) (more refl (digits-unbroken height)),
+        (rw append-assoc at (number-line (digits width ++ (32 ∷ [])) height (omega arith))),
+      )
 
   abbrev headerLines : List ℕ → List (List ℕ)
   headerLines magic = magic ∷ rowsRemark done due ∷ (digits width ++ (32 ∷ digits height)) ∷ digits maximum ∷ []
@@ -143,5 +159,6 @@ module _ (done due width height maximum : ℕ) (s : SmallNumbers done due width 
       short = more m (more (remark-line .1) (more (sides-line .1) (more (short-number maximum (s .small-maximum)) none)));
     }
 
-    pub header-lines : lines (headerText magic done due width height maximum) ≡ magic ∷ rowsRemark done due ∷ (digits width ++ (32 ∷ digits height)) ∷ digits maximum ∷ []
+    pub header-lines : lines (headerText magic done due width height maximum) ≡ magic ∷ rowsRemark done due ∷
+        (digits width ++ (32 ∷ digits height)) ∷ digits maximum ∷ []
     header-lines = ap lines (header-unlines magic) ∙ lines-unlines header-unbroken

@@ -1,4 +1,5 @@
--- Texts made of whole lines. Each part of a picture's text is a list of lines, each with its end; so is one part after the other, and cutting gives the lines back.
+-- Texts made of whole lines. Each part of a picture's text is a list of lines, each with its end; so is one part after the other,
+-- and cutting gives the lines back.
 use Prim.Native.Nat.{ℕ, zero, suc, _+_, _-_, _<_}
 use native.Mathlib.Omega.{arith}
 use mathlib.Core.Path.{_≡_, refl, sym, ap, ap₂, _∙_}
@@ -28,7 +29,8 @@ module _ {A : Type 0} {P : A → Type 0} where
   every-of d (x ∷ xs) h = more (h 0 (omega arith)) (every-of d xs (λ i l. h (suc i) (omega arith)))
 
 -- A piece, its end, and the pieces of the rest
-pub cut-piece : (ends : ℕ → Bool) (byte : ℕ) (rest : List ℕ) {piece : List ℕ} → Every (λ b. ends b ≡ false) piece → ends byte ≡ true → cut ends (piece ++ (byte ∷ rest)) ≡ piece ∷ cut ends rest
+pub cut-piece : (ends : ℕ → Bool) (byte : ℕ) (rest : List ℕ) {piece : List ℕ} → Every (λ b. ends b ≡ false) piece
+    → ends byte ≡ true → cut ends (piece ++ (byte ∷ rest)) ≡ piece ∷ cut ends rest
 unfolding cut joined
 cut-piece ends byte rest none e = rw e
 cut-piece ends byte rest (more o h) e = rw (o, cut-piece ends byte rest h e)
@@ -40,12 +42,14 @@ Unbroken text = Every (λ byte. endsLine byte ≡ false) text
 unlines-append : (xs ys : List (List ℕ)) → unlines (xs ++ ys) ≡ unlines xs ++ unlines ys
 unfolding unlines
 unlines-append [] ys = refl
-unlines-append (x ∷ xs) ys = ap (λ rest. x ++ (10 ∷ rest)) (unlines-append xs ys) ∙ sym (append-assoc x (10 ∷ unlines xs) (unlines ys))
+unlines-append (x ∷ xs) ys = ap (λ rest. x ++ (10 ∷ rest)) (unlines-append xs ys)
+    ∙ sym (append-assoc x (10 ∷ unlines xs) (unlines ys))
 
 pub lines-unlines : {list : List (List ℕ)} → Every Unbroken list → lines (unlines list) ≡ list
 unfolding unlines cut endsLine
 lines-unlines none = refl
-lines-unlines {list = line ∷ list} (more o h) = cut-piece endsLine 10 (unlines list) o refl ∙ ap (λ rest. line ∷ rest) (lines-unlines h)
+lines-unlines {list = line ∷ list} (more o h) = cut-piece endsLine 10 (unlines list) o refl
+    ∙ ap (λ rest. line ∷ rest) (lines-unlines h)
 
 -- a text made of short lines
 pub record Lined (text : List ℕ) : Type 0 where
@@ -95,7 +99,8 @@ unfolding lined-append
 lined-apart g h = lined-list (lined-append g h) ∙ sym (ap₂ (λ x y. x ++ y) (lined-list g) (lined-list h))
 
 -- the last byte of a text made of lines is LF
-last-append : (xs : List ℕ) (y : ℕ) (ys : List ℕ) → getD (xs ++ (y ∷ ys)) (length (xs ++ (y ∷ ys)) - 1) 0 ≡ getD (y ∷ ys) (length ys) 0
+last-append : (xs : List ℕ) (y : ℕ) (ys : List ℕ)
+    → getD (xs ++ (y ∷ ys)) (length (xs ++ (y ∷ ys)) - 1) 0 ≡ getD (y ∷ ys) (length ys) 0
 last-append xs y ys =
     let a = length-append xs (y ∷ ys) in
     let e : length (xs ++ (y ∷ ys)) - 1 ≡ length xs + length ys = omega arith in

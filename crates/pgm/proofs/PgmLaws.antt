@@ -1,4 +1,5 @@
--- THE LAWS OF THE TEXT: its lines are what the rule for plain PGM says. Beside these: no line ends early (FillLaws), the levels are read back (WordLaws), the text is short (SizeLaws).
+-- THE LAWS OF THE TEXT: its lines are what the rule for plain PGM says. Beside these: no line ends early (FillLaws), the levels
+-- are read back (WordLaws), the text is short (SizeLaws).
 use Prim.Native.Nat.{ℕ, suc, _-_, _<_}
 use native.Mathlib.Omega.{arith}
 use mathlib.Core.Path.{_≡_, refl, ap, _∙_}
@@ -8,7 +9,8 @@ use Rattle.decimal.specs.Numbers.{digits}
 use Rattle.pgm.specs.Lines.{Every, none, more, endsLine, lines, unlines, ShortLine}
 use Rattle.pgm.specs.PgmText.{rowsRemark, headerText, plainMagic, frameRow, levelsText, pgmText}
 use Rattle.pgm.specs.Writing.{Small, SmallNumbers, Picture}
-use Rattle.pgm.proofs.LineLaws.{Unbroken, Lined, every-take, every-drop, lined-append, lined-lines, lined-back, lined-apart, lined-last}
+use Rattle.pgm.proofs.LineLaws.{Unbroken, Lined, every-take, every-drop, lined-append, lined-lines, lined-back}
+use Rattle.pgm.proofs.LineLaws.{lined-apart, lined-last}
 use Rattle.pgm.proofs.LevelLines.{row-lined, levels-lined, header-lined, header-lines}
 use Rattle.pgm.proofs.SizeLaws.{header-small, header-size, row-some}
 
@@ -24,15 +26,19 @@ pub row-ends : (row : List ℕ) → Small row → 0 < length row → getD (frame
 row-ends row h l = lined-last (row-lined h) (row-some row l)
 
 -- each frame row begins a line: the lines are those of the first row, and then those of the others
-pub row-begins-line : (width height : ℕ) (levels : List ℕ) → Small levels → lines (levelsText width (suc height) levels) ≡ lines (frameRow (take width levels)) ++ lines (levelsText width height (drop width levels))
+pub row-begins-line : (width height : ℕ) (levels : List ℕ) → Small levels
+    → lines (levelsText width (suc height) levels) ≡ lines (frameRow (take width levels)) ++
+    lines (levelsText width height (drop width levels))
 unfolding levelsText
-row-begins-line width height levels h = lined-apart (row-lined (every-take width h)) (levels-lined width height (every-drop width h))
+row-begins-line width height levels h =
+    lined-apart (row-lined (every-take width h)) (levels-lined width height (every-drop width h))
 
 module _ (width height : ℕ) (levels : List ℕ) (h : Small levels) where
   pub levels-lines : Every ShortLine (lines (levelsText width height levels))
   levels-lines = lined-lines (levels-lined width height h)
 
-module _ (width height maximum done due : ℕ) (levels : List ℕ) (h : Picture width height maximum done due levels) (small : Small levels) where
+module _ (width height maximum done due : ℕ) (levels : List ℕ) (h : Picture width height maximum done due levels)
+    (small : Small levels) where
   abbrev header : List ℕ
   header = headerText plainMagic done due width height maximum
 
@@ -50,11 +56,14 @@ module _ (width height maximum done due : ℕ) (levels : List ℕ) (h : Picture 
   made = lined-append header-made (levels-lined width height small)
 
   -- the lines: the four of the header, and then those of the levels
-  pub text-parts : lines text ≡ (plainMagic ∷ rowsRemark done due ∷ (digits width ++ (32 ∷ digits height)) ∷ digits maximum ∷ []) ++ lines (levelsText width height levels)
+  pub text-parts : lines text
+      ≡ (plainMagic ∷ rowsRemark done due ∷ (digits width ++ (32 ∷ digits height)) ∷ digits maximum ∷ []) ++
+      lines (levelsText width height levels)
   unfolding pgmText
   text-parts =
       lined-apart header-made (levels-lined width height small)
-      ∙ ap (λ first. first ++ lines (levelsText width height levels)) (header-lines done due width height maximum numbers plainMagic magic-unbroken magic-short)
+      ∙ ap (λ first. first ++ lines (levelsText width height levels))
+      (header-lines done due width height maximum numbers plainMagic magic-unbroken magic-short)
 
   -- no line is empty or longer than 70 characters, and none ends in a blank
   pub text-lines : Every ShortLine (lines text)
@@ -68,4 +77,5 @@ module _ (width height maximum done due : ℕ) (levels : List ℕ) (h : Picture 
   unfolding pgmText
   text-last =
       lined-last made
-      (let a = length-append header (levelsText width height levels) in let s = header-size plainMagic done due width height maximum in omega arith)
+      (let a = length-append header (levelsText width height levels) in
+      let s = header-size plainMagic done due width height maximum in omega arith)

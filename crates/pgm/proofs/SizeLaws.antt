@@ -1,4 +1,5 @@
--- How long the text is: one byte follows each number, a blank or the end of a line, so that the length does not depend on where the lines end.
+-- How long the text is: one byte follows each number, a blank or the end of a line, so that the length does not depend on where
+-- the lines end.
 use Prim.Native.Nat.{ℕ, zero, suc, _+_, _*_, _≤_, _<_}
 use native.Mathlib.Nat.{suc-mul, mul-le-mul}
 use native.Mathlib.Numerals.{add-one}
@@ -18,11 +19,15 @@ pub five : (n : ℕ) → n < 65536 → length (digits n) ≤ 5
 five n l = length-below 5 n (omega arith) (let m : n < 100000 = omega arith in m)
 
 -- the header
-pub header-size : (magic : List ℕ) (done due width height maximum : ℕ) → length (headerText magic done due width height maximum) ≡ length magic + 16 + length (digits done) + length (digits due) + length (digits width) + length (digits height) + length (digits maximum)
+pub header-size : (magic : List ℕ) (done due width height maximum : ℕ)
+    → length (headerText magic done due width height maximum)
+    ≡ length magic + 16 + length (digits done) + length (digits due) + length (digits width) + length (digits height) + length
+    (digits maximum)
 unfolding headerText
 header-size magic done due width height maximum = simp length-append (omega arith)
 
-pub header-bound : (done due width height maximum : ℕ) → SmallNumbers done due width height maximum → length (digits done) + length (digits due) + length (digits width) + length (digits height) + length (digits maximum) ≤ 25
+pub header-bound : (done due width height maximum : ℕ) → SmallNumbers done due width height maximum
+    → length (digits done) + length (digits due) + length (digits width) + length (digits height) + length (digits maximum) ≤ 25
 header-bound done due width height maximum s =
     let a = five done (s .small-done) in
     let b = five due (s .small-due) in
@@ -31,7 +36,8 @@ header-bound done due width height maximum s =
     let e = five maximum (s .small-maximum) in
     omega arith
 
-pub header-short : (done due width height maximum : ℕ) → SmallNumbers done due width height maximum → length (headerText plainMagic done due width height maximum) ≤ 43
+pub header-short : (done due width height maximum : ℕ) → SmallNumbers done due width height maximum
+    → length (headerText plainMagic done due width height maximum) ≤ 43
 header-short done due width height maximum s =
     let b = header-bound done due width height maximum s in
     let e = header-size plainMagic done due width height maximum in
@@ -66,10 +72,12 @@ size-append [] ys = omega arith
 size-append (level ∷ xs) ys = let e = size-append xs ys in omega arith
 
 -- a row taken off the front leaves a row less
-pub rows-left : (width height : ℕ) (levels : List ℕ) → length levels ≡ suc height * width → length (drop width levels) ≡ height * width
+pub rows-left : (width height : ℕ) (levels : List ℕ) → length levels ≡ suc height * width
+    → length (drop width levels) ≡ height * width
 rows-left width height levels e = let m = suc-mul height width in let d = length-drop width levels in omega arith
 
-pub levels-size : (width height : ℕ) (levels : List ℕ) → length levels ≡ height * width → length (levelsText width height levels) ≡ levelsSize levels
+pub levels-size : (width height : ℕ) (levels : List ℕ) → length levels ≡ height * width
+    → length (levelsText width height levels) ≡ levelsSize levels
 unfolding levelsText levelsSize
 levels-size width zero [] e = refl
 levels-size width zero (level ∷ levels) e = absurd (omega arith)
@@ -94,12 +102,20 @@ module _ (width height maximum done due : ℕ) (levels : List ℕ) (h : Picture 
   header-small =
       let w = h .width-most in
       let t = h .height-most in
-      record { small-done = h .small-done; small-due = h .small-due; small-width = omega arith; small-height = omega arith; small-maximum = h .small-maximum }
+      record {
+        small-done = h .small-done;
+        small-due = h .small-due;
+        small-width = omega arith;
+        small-height = omega arith;
+        small-maximum = h .small-maximum;
+      }
 
   pub levels-few : length levels ≤ 16777216
-  levels-few = let m : height * width ≤ 4096 * 4096 = mul-le-mul (h .height-most) (h .width-most) in let s = h .size in omega arith
+  levels-few = let m : height * width ≤ 4096 * 4096 = mul-le-mul (h .height-most) (h .width-most) in let s = h .size in
+      omega arith
 
-  pub text-size : length (pgmText width height maximum done due levels) ≡ length (headerText plainMagic done due width height maximum) + levelsSize levels
+  pub text-size : length (pgmText width height maximum done due levels)
+      ≡ length (headerText plainMagic done due width height maximum) + levelsSize levels
   unfolding pgmText
   text-size =
       let a = length-append (headerText plainMagic done due width height maximum) (levelsText width height levels) in
@@ -122,14 +138,16 @@ pub record Summing (levels : List ℕ) (sum i : ℕ) : Type 0 where
   pub bounded : sum ≤ 6 * i
 
 module _ {levels : List ℕ} {sum i : ℕ} (h : Summing levels sum i) where
-  pub summing-turn : (level count : ℕ) → i < length levels → (level ≡ getD levels i 0) × (level < 65536) → count ≡ length (digits level) → (count ≤ 5) × Summing levels (sum + (count + 1)) (i + 1)
+  pub summing-turn : (level count : ℕ) → i < length levels → (level ≡ getD levels i 0) × (level < 65536)
+      → count ≡ length (digits level) → (count ≤ 5) × Summing levels (sum + (count + 1)) (i + 1)
   unfolding levelsSize
   summing-turn level count l e n =
       let f = five level (e .1) in
       let b = h .bounded in
       let w = h .whole in
       let q : level ≡ getD levels i 0 = e .0 in
-      let d : drop i levels ≡ level ∷ drop (i + 1) levels = drop-cons levels i 0 l ∙ sym (ap (λ x. x ∷ drop (suc i) levels) q) ∙ ap (λ k. level ∷ drop k levels) (sym (add-one i)) in
+      let d : drop i levels ≡ level ∷ drop (i + 1) levels = drop-cons levels i 0 l ∙ sym (ap (λ x. x ∷ drop (suc i) levels) q)
+      ∙ ap (λ k. level ∷ drop k levels) (sym (add-one i)) in
       let s = ap levelsSize d in
       (omega arith, record { within = omega arith; whole = omega arith; bounded = omega arith })
 

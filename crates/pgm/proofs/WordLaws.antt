@@ -30,7 +30,8 @@ parting-ends column size = go (stays column size)
     go false = refl
 
 -- a number and what follows it in its frame row, before any other text
-rest-words : (n column : ℕ) (rest text : List ℕ) → words (digits n ++ (levelRow column rest ++ text)) ≡ digits n ∷ (map digits rest ++ words text)
+rest-words : (n column : ℕ) (rest text : List ℕ)
+    → words (digits n ++ (levelRow column rest ++ text)) ≡ digits n ∷ (map digits rest ++ words text)
 unfolding levelRow endsWord
 rest-words n column [] text = cut-piece endsWord 10 text (digits-whole n) refl
 rest-words n column (next ∷ rest) text =
@@ -51,13 +52,15 @@ map-append [] ys = refl
 map-append (x ∷ xs) ys = ap (λ rest. digits x ∷ rest) (map-append xs ys)
 
 -- THE WORDS ARE THE LEVELS, in order, one byte between each two
-pub levels-words : (width height : ℕ) (levels : List ℕ) → length levels ≡ height * width → words (levelsText width height levels) ≡ map digits levels
+pub levels-words : (width height : ℕ) (levels : List ℕ) → length levels ≡ height * width
+    → words (levelsText width height levels) ≡ map digits levels
 unfolding levelsText cut
 levels-words width zero [] e = refl
 levels-words width zero (level ∷ levels) e = absurd (omega arith)
 levels-words width (suc height) levels e =
     row-words (take width levels) (levelsText width height (drop width levels))
-    ∙ ap (λ rest. map digits (take width levels) ++ rest) (levels-words width height (drop width levels) (rows-left width height levels e))
+    ∙ ap (λ rest. map digits (take width levels) ++ rest)
+    (levels-words width height (drop width levels) (rows-left width height levels e))
     ∙ map-append (take width levels) (drop width levels)
     ∙ ap (map digits) (take-append-drop width levels)
 
@@ -66,5 +69,6 @@ values-back [] = refl
 values-back (level ∷ levels) = ap₂ (λ n rest. n ∷ rest) (value-digits level) (values-back levels)
 
 -- so the levels are read back
-pub levels-back : (width height : ℕ) (levels : List ℕ) → length levels ≡ height * width → map value (words (levelsText width height levels)) ≡ levels
+pub levels-back : (width height : ℕ) (levels : List ℕ) → length levels ≡ height * width
+    → map value (words (levelsText width height levels)) ≡ levels
 levels-back width height levels e = ap (map value) (levels-words width height levels e) ∙ values-back levels

@@ -50,4 +50,5 @@ pub record ShortLine (line : List ℕ) : Type 0 where
 -- the lines of a frame row are filled: the number that begins the next line would have taken the line before past 70 characters
 pub data Filled : List (List ℕ) → Type 0 where
   last : {line : List ℕ} → Filled (line ∷ [])
-  before : {line next : List ℕ} {rest : List (List ℕ)} → 70 < length line + 1 + length (digitRun next) → Filled (next ∷ rest) → Filled (line ∷ next ∷ rest)
+  before : {line next : List ℕ} {rest : List (List ℕ)} → 70 < length line + 1 + length (digitRun next) → Filled (next ∷ rest)
+      → Filled (line ∷ next ∷ rest)

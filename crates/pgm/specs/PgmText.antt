@@ -19,7 +19,8 @@ unfoldable pub headerText : List ℕ → ℕ → ℕ → ℕ → ℕ → ℕ →
 headerText magic done due width height maximum =
     line magic ++ (line (rowsRemark done due) ++ (line (digits width ++ (32 ∷ digits height)) ++ line (digits maximum)))
 
--- whether a number of `size` digits stays on a line of `column` characters: with a blank before it, it takes the line to at most 70
+-- whether a number of `size` digits stays on a line of `column` characters: with a blank before it, it takes the line to at most
+-- 70
 unfoldable pub stays : ℕ → ℕ → Bool
 stays column size = leb (column + 1 + size) 70
 
@@ -52,4 +53,5 @@ abbrev pub plainMagic : List ℕ
 plainMagic = 80 ∷ 50 ∷ []
 
 unfoldable pub pgmText : ℕ → ℕ → ℕ → ℕ → ℕ → List ℕ → List ℕ
-pgmText width height maximum done due levels = headerText plainMagic done due width height maximum ++ levelsText width height levels
+pgmText width height maximum done due levels = headerText plainMagic done due width height maximum ++
+    levelsText width height levels

@@ -5,6 +5,7 @@ use mathlib.Core.Bool.{Bool, false, not, cond, _||_}
 use mathlib.Core.List.{List, [], _∷_}
 use lib.Dec.{eqb, ltb}
 use lib.ListN.{length}
+use Rattle.basics.specs.Bounds.{anyAbove}
 use Rattle.basics.specs.Refusals.{Refusal, Answers}
 use Rattle.text.specs.Writing.{begun}
 use Rattle.run.specs.declared.Record.{Record}
@@ -15,10 +16,6 @@ use Rattle.pgm.specs.PgmText.{pgmText}
 -- the larger frame side for an erosion, R + 1 for a dilation
 abbrev pub maximum : Record → ℕ
 maximum r = cond (isErosion r) (max (r .width) (r .height)) (r .cap + 1)
-
-unfoldable pub anyAbove : ℕ → List ℕ → Bool
-anyAbove limit [] = false
-anyAbove limit (level ∷ rest) = ltb limit level || anyAbove limit rest
 
 abbrev pub picture : Record → List ℕ → List ℕ
 picture r levels = pgmText (r .width) (r .height) (maximum r) (r .rows) (due r) levels

@@ -4,9 +4,10 @@ ghost use mathlib.Core.Path.{_≡_};
 ghost use mathlib.Core.Bool.{false};
 ghost use Prim.Native.Nat.{_≤_, max};
 ghost use lib.ListN.{length};
+ghost use Rattle.basics.specs.Bounds.{anyAbove};
 ghost use Rattle.basics.specs.Refusals.{first};
 ghost use Rattle.run.specs.Records.{foreign};
-ghost use Rattle.pgm.specs.WritePgm.{maximum, anyAbove, pgmRefusals, WritesPgm};
+ghost use Rattle.pgm.specs.WritePgm.{maximum, pgmRefusals, WritesPgm};
 
 // What writing answers: the refusal number, 0 where it is accepted, and the text's length, 0 beside a refusal.
 pub struct WritePgm {

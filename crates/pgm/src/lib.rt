@@ -6,7 +6,8 @@ ghost use mathlib.Core.List.{_∷_, [], _++_};
 ghost use Prim.Native.Nat.{_+_, _-_, _*_, _<_, _≤_};
 ghost use lib.ListN.{length};
 ghost use Rattle.decimal.specs.Numbers.{digits};
-ghost use Rattle.pgm.specs.PgmText.{line, rowsRemark, headerText, stays, parting, columnAfter, levelRow, frameRow, levelsText, pgmText};
+ghost use Rattle.pgm.specs.PgmText.{line, rowsRemark, headerText, stays, parting, columnAfter, levelRow, frameRow};
+ghost use Rattle.pgm.specs.PgmText.{levelsText, pgmText};
 ghost use Rattle.text.specs.Writing.{begun, Wrote};
 ghost use Rattle.pgm.specs.Writing.{levelsSize, SmallNumbers, Picture};
 
@@ -88,7 +89,8 @@ fn write_row(row: &[u16], out: &mut [u8], at: usize) -> usize
 
 // Writes the frame rows one after the other.
 fn write_levels(width: usize, height: usize, levels: &[u16], out: &mut [u8], at: usize) -> usize
-    requires { ⌜ (0 < width) × ((length (now levels) ≡ height * width) × (at + length (levelsText width height (now levels)) ≤ length (now out))) ⌝ }
+    requires { ⌜ (0 < width) ×
+        ((length (now levels) ≡ height * width) × (at + length (levelsText width height (now levels)) ≤ length (now out))) ⌝ }
     ensures { λ r. ⌜ Wrote (levelsText width height (now (levels .entry))) at (now (out .entry)) (now (out .exit)) r ⌝ }
 {
     let mut end = at;
@@ -123,8 +125,10 @@ fn write_maximum(maximum: usize, out: &mut [u8], at: usize) -> usize
 
 // Ends the remark's line, and writes the lines of the sides and the maximum.
 fn write_sizes(width: usize, height: usize, maximum: usize, out: &mut [u8], at: usize) -> usize
-    requires { ⌜ at + length (((10 ∷ digits width) ++ (32 ∷ digits height)) ++ ((10 ∷ digits maximum) ++ (10 ∷ []))) ≤ length (now out) ⌝ }
-    ensures { λ r. ⌜ Wrote (((10 ∷ digits width) ++ (32 ∷ digits height)) ++ ((10 ∷ digits maximum) ++ (10 ∷ []))) at (now (out .entry)) (now (out .exit)) r ⌝ }
+    requires { ⌜ at + length (((10 ∷ digits width) ++ (32 ∷ digits height)) ++ ((10 ∷ digits maximum) ++ (10 ∷ []))) ≤ length
+        (now out) ⌝ }
+    ensures { λ r. ⌜ Wrote (((10 ∷ digits width) ++ (32 ∷ digits height)) ++ ((10 ∷ digits maximum) ++ (10 ∷ []))) at
+        (now (out .entry)) (now (out .exit)) r ⌝ }
 {
     let next = text::write_pair(b"\n", width, b" ", height, out, at);
     write_maximum(maximum, out, next)
@@ -142,7 +146,8 @@ pub fn write_header(
     at: usize,
 ) -> usize
     requires { ⌜ at + length (headerText (now magic) done due width height maximum) ≤ length (now out) ⌝ }
-    ensures { λ r. ⌜ Wrote (headerText (now (magic .entry)) done due width height maximum) at (now (out .entry)) (now (out .exit)) r ⌝ }
+    ensures { λ r. ⌜ Wrote (headerText (now (magic .entry)) done due width height maximum) at (now (out .entry))
+        (now (out .exit)) r ⌝ }
 {
     let next = write_remark(magic, done, due, out, at);
     write_sizes(width, height, maximum, out, next)
@@ -207,7 +212,8 @@ pub fn write_pgm_text(
     levels: &[u16],
     out: &mut [u8],
 ) -> usize
-    requires { ⌜ (Picture width height maximum done due (now levels)) × (length (pgmText width height maximum done due (now levels)) ≤ length (now out)) ⌝ }
+    requires { ⌜ (Picture width height maximum done due (now levels)) ×
+        (length (pgmText width height maximum done due (now levels)) ≤ length (now out)) ⌝ }
     ensures { λ r. ⌜ (r ≡ length (pgmText width height maximum done due (now (levels .entry)))) ×
         (now (out .exit) ≡ begun (pgmText width height maximum done due (now (levels .entry))) (now (out .entry))) ⌝ }
 {

@@ -1,4 +1,5 @@
--- None of the calls of the program's run refuses: the cross is an accepted element, the buffers have the frame's size, and one allowance of 8,192 covers all rows of any frame.
+-- None of the calls of the program's run refuses: the cross is an accepted element, the buffers have the frame's size, and one
+-- allowance of 8,192 covers all rows of any frame.
 use Prim.Native.Nat.{ℕ, _+_, _*_, _≤_, min}
 use native.Mathlib.Omega.{arith}
 use mathlib.Core.Path.{_≡_, refl, sym, ap, subst, _∙_}
@@ -7,10 +8,11 @@ use mathlib.Core.List.{List, [], _∷_, _++_}
 use lib.Dec.{eqb}
 use lib.ListN.{length, replicate, length-replicate}
 use borrow.Author.Tests.{eq-eqb, ne-eqb, le-ltb}
+use Rattle.basics.specs.Bounds.{anyAbove}
 use Rattle.basics.specs.Refusals.{Refusal, first}
 use Rattle.basics.proofs.RefusalLaws.{first-accepted, accepts}
 use Rattle.basics.proofs.TableLaws.{length-raster}
-use Rattle.element.specs.Elements.{isSide, anyAboveOne, countSet, elementRefusals}
+use Rattle.element.specs.Elements.{isSide, countSet, elementRefusals}
 use Rattle.sheet.specs.Sheets.{isSideOut, sheetRefusals}
 use Rattle.sheet.proofs.FrameLaws.{accept-frame, accept-sheet}
 use Rattle.row.specs.RowRule.{none}
@@ -30,7 +32,7 @@ use Rattle.printing.specs.Printing.{cross, crossRun, crossLevels}
 use Rattle.printing.specs.Steps.{SoundSheet}
 
 pub cross-accepted : first (elementRefusals 3 cross) ≡ 0
-unfolding isSide anyAboveOne countSet
+unfolding isSide anyAbove countSet
 cross-accepted = refl
 
 side-ok : (side : ℕ) → 1 ≤ side → side ≤ 4096 → isSideOut side ≡ false
@@ -40,7 +42,8 @@ side-ok side a b = rw (ne-eqb side 0 (λ z. absurd (omega arith)), le-ltb 4096 s
 module _ (width height : ℕ) (sheet : List ℕ) (s : SoundSheet width height sheet) where
   sheet-accepted : first (sheetRefusals width height sheet) ≡ 0
   sheet-accepted =
-      let f = accept-frame width height (side-ok width (s .width-some) (s .width-most)) (side-ok height (s .height-some) (s .height-most)) in
+      let f = accept-frame width height (side-ok width (s .width-some) (s .width-most))
+      (side-ok height (s .height-some) (s .height-most)) in
       sym (accept-sheet width height sheet (sym f) (s .size))
 
   abbrev run : Record
@@ -60,11 +63,13 @@ module _ (width height : ℕ) (sheet : List ℕ) (s : SoundSheet width height sh
     pub starts : StartsErosion width height sheet 3 cross lent 0 (run, start)
     starts = accepts (run, start) start-accepted refl
 
-    pub start-gives : (number : ℕ) (r : Record) (after : List ℕ) → StartsErosion width height sheet 3 cross lent number (r, after) → (r ≡ run) × (after ≡ start)
+    pub start-gives : (number : ℕ) (r : Record) (after : List ℕ) → StartsErosion width height sheet 3 cross lent number (r, after)
+        → (r ≡ run) × (after ≡ start)
     start-gives number r after a = let q = a .accepted (a .refusal ∙ start-accepted) in (ap (λ t. t .0) q, ap (λ t. t .1) q)
 
   is : IsStart run start
-  is = is-start (erosion width height sheet 3 cross (replicate (height * width) 0) (starts (replicate (height * width) 0) (length-replicate (height * width) 0)))
+  is = is-start (erosion width height sheet 3 cross (replicate (height * width) 0)
+      (starts (replicate (height * width) 0) (length-replicate (height * width) 0)))
 
   -- CONTINUING
   rows-small : due run ≤ 8192
@@ -77,19 +82,24 @@ module _ (width height : ℕ) (sheet : List ℕ) (s : SoundSheet width height sh
   unfolding recordBad
   fresh-sound = rw (is .taken, le-ltb (due run) 0 (omega arith))
 
-  continue-gives-one : (number : ℕ) (r : Record) (done : Bool) (after : List ℕ) → Continues run start 8192 number (r, done, after) → (r ≡ withRows run (due run)) × (after ≡ finished run start)
+  continue-gives-one : (number : ℕ) (r : Record) (done : Bool) (after : List ℕ) → Continues run start 8192 number (r, done, after)
+      → (r ≡ withRows run (due run)) × (after ≡ finished run start)
   continue-gives-one number r done after a =
       let z = continue-accept run start 8192 fresh-sound (levels-right start refl) (omega arith) in
       let q = a .accepted (a .refusal ∙ sym z) in
-      let n = ap (λ levels. continued run levels 8192) (sym (rows-none (areaOf run) 0 start)) ∙ longer run start is 0 (omega arith) 8192 in
+      let n = ap (λ levels. continued run levels 8192) (sym (rows-none (areaOf run) 0 start))
+      ∙ longer run start is 0 (omega arith) 8192 in
       let m : min (0 + 8192) (due run) ≡ due run = let d = rows-small in omega arith in
       let e = q ∙ n ∙ ap (unbroken run start) m in
       (ap (λ t. t .0) e, ap (λ t. t .2) e)
 
-  pub continue-gives : (begun : Record) (levels : List ℕ) → (begun ≡ run) × (levels ≡ start) → (number : ℕ) (r : Record) (done : Bool) (after : List ℕ)
+  pub continue-gives : (begun : Record) (levels : List ℕ) → (begun ≡ run) × (levels ≡ start)
+      → (number : ℕ) (r : Record) (done : Bool) (after : List ℕ)
       → Continues begun levels 8192 number (r, done, after) → (r ≡ withRows run (due run)) × (after ≡ finished run start)
   continue-gives begun levels e number r done after a =
-      continue-gives-one number r done after (subst (λ x. Continues x start 8192 number (r, done, after)) (e .0) (subst (λ x. Continues begun x 8192 number (r, done, after)) (e .1) a))
+      continue-gives-one number r done after
+      (subst (λ x. Continues x start 8192 number (r, done, after)) (e .0)
+      (subst (λ x. Continues begun x 8192 number (r, done, after)) (e .1) a))
 
   -- COLLECTING
   abbrev whole : Record
@@ -103,17 +113,24 @@ module _ (width height : ℕ) (sheet : List ℕ) (s : SoundSheet width height sh
   unfolding collected
   collected-rows = refl
 
-  collect-gives-one : (room : List ℕ) → length room ≡ height * width → (number : ℕ) (after : List ℕ) → Collects whole (finished run start) room number after → after ≡ crossLevels width height sheet
+  collect-gives-one : (room : List ℕ) → length room ≡ height * width → (number : ℕ) (after : List ℕ)
+      → Collects whole (finished run start) room number after → after ≡ crossLevels width height sheet
   collect-gives-one room e number after a =
       let w = levels-right (finished run start) (rows-length (areaOf run) 0 (due run) start) in
       let z = collect-last whole (finished run start) room done-sound w (nothing-wrong whole room (height * width) e refl) in
       a .accepted (a .refusal ∙ z) ∙ collected-rows
 
-  pub collect-gives : (r : Record) (levels : List ℕ) → (r ≡ withRows run (due run)) × (levels ≡ finished run start) → (room : List ℕ) → length room ≡ height * width → (number : ℕ) (after : List ℕ)
+  pub collect-gives : (r : Record) (levels : List ℕ) → (r ≡ withRows run (due run)) × (levels ≡ finished run start)
+      → (room : List ℕ) → length room ≡ height * width → (number : ℕ) (after : List ℕ)
       → Collects r levels room number after → after ≡ crossLevels width height sheet
   collect-gives r levels q room e number after a =
-      collect-gives-one room e number after (subst (λ x. Collects x (finished run start) room number after) (q .0) (subst (λ x. Collects r x room number after) (q .1) a))
+      collect-gives-one room e number after
+      (subst (λ x. Collects x (finished run start) room number after) (q .0)
+      (subst (λ x. Collects r x room number after) (q .1) a))
 
 pub levels-length : (width height : ℕ) (sheet : List ℕ) → length (crossLevels width height sheet) ≡ height * width
 unfolding collected
-levels-length width height sheet = length-raster width height (λ row col. collectedLevel (crossRun width height) (frameLevel (crossRun width height) (finished (crossRun width height) (startLevels width height 0 sheet none 0)) row col))
+levels-length width height sheet =
+    length-raster width height
+    (λ row col. collectedLevel (crossRun width height)
+    (frameLevel (crossRun width height) (finished (crossRun width height) (startLevels width height 0 sheet none 0)) row col))

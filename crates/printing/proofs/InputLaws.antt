@@ -1,4 +1,5 @@
--- What an input is found to be. The room lent to the reader is never short, for the raster is a part of an input below 65,536 bytes; so the reader's refusals are the file's.
+-- What an input is found to be. The room lent to the reader is never short, for the raster is a part of an input below 65,536
+-- bytes; so the reader's refusals are the file's.
 -- Where it refuses nothing, the header is whole, and the front of the room is the sheet.
 use Prim.Native.Nat.{ℕ, _*_, _≤_, _<_}
 use native.Mathlib.Omega.{arith}
@@ -32,14 +33,16 @@ module _ (input : List ℕ) where
   module _ (small : length input < 65536) where
     file-refused : (number : ℕ) → number ≢ 0 → number ≡ first (fileRefusals input) → refusedText number ≡ printed input
     unfolding printed
-    file-refused number n e = rw (lt-leb 65536 (length input) small, ne-eqb (first (fileRefusals input)) 0 (λ z. n (e ∙ z))) (ap refusedText e)
+    file-refused number n e =
+        rw (lt-leb 65536 (length input) small, ne-eqb (first (fileRefusals input)) 0 (λ z. n (e ∙ z))) (ap refusedText e)
 
     pub file-sound : first (fileRefusals input) ≡ 0 → soundText (header input) ≡ printed input
     unfolding printed
     file-sound z = rw (lt-leb 65536 (length input) small, eq-eqb (first (fileRefusals input)) 0 z)
 
 -- the raster is a part of the file
-raster-within : (file : List ℕ) (width height : ℕ) (raster : List ℕ) → header file ≡ whole width height raster → length raster ≤ length file
+raster-within : (file : List ℕ) (width height : ℕ) (raster : List ℕ) → header file ≡ whole width height raster
+    → length raster ≤ length file
 raster-within file width height raster e =
     let y = whole-layout file width height raster e in
     let b = ap length (y .bytes) in
@@ -58,32 +61,45 @@ idle : (n : ℕ) (xs : List Refusal) → first (xs ++ (n, false) ∷ []) ≡ fir
 idle n [] = refl
 idle n (r ∷ xs) = ap (cond (r .1) (r .0)) (idle n xs)
 
-room-idle : (front : List Refusal) (room : List ℕ) (h : Header) → ((width height : ℕ) (raster : List ℕ) → h ≡ whole width height raster → length raster ≤ length room) → first (front ++ pbm.rasterOf h room) ≡ first (front ++ rasterOf h)
+room-idle : (front : List Refusal) (room : List ℕ) (h : Header)
+    → ((width height : ℕ) (raster : List ℕ) → h ≡ whole width height raster → length raster ≤ length room)
+    → first (front ++ pbm.rasterOf h room) ≡ first (front ++ rasterOf h)
 room-idle front room broken fits = refl
 room-idle front room (whole width height raster) fits =
-    ap (λ (t : Bool). first (front ++ (rasterRefusals width height raster ++ (11, t) ∷ []))) (le-ltb (length room) (length raster) (fits width height raster refl))
-    ∙ ap first (sym (append-assoc front (rasterRefusals width height raster) ((11, false) ∷ []))) ∙ idle 11 (front ++ rasterRefusals width height raster)
+    ap (λ (t : Bool). first (front ++ (rasterRefusals width height raster ++ (11, t) ∷ [])))
+    (le-ltb (length room) (length raster) (fits width height raster refl))
+    ∙ ap first (sym (append-assoc front (rasterRefusals width height raster) ((11, false) ∷ [])))
+    ∙ idle 11 (front ++ rasterRefusals width height raster)
 
 -- a file without refusals whose header is whole: its sheet
 module _ (input : List ℕ) (none : first (fileRefusals input) ≡ 0) where
   unbroken : (isBroken (header input) ≡ false) × (first (frameOf (header input) ++ rasterOf (header input)) ≡ 0)
   unbroken =
       let rest = frameOf (header input) ++ rasterOf (header input) in
-      passed 22 (isBroken (header input)) rest (λ n. omega arith) (passed 21 (not (beginsP4 input)) ((22, isBroken (header input)) ∷ rest) (λ n. omega arith) none .1)
+      passed 22 (isBroken (header input)) rest (λ n. omega arith)
+      (passed 21 (not (beginsP4 input)) ((22, isBroken (header input)) ∷ rest) (λ n. omega arith) none .1)
 
   module _ (width height : ℕ) (raster : List ℕ) (e : header input ≡ whole width height raster) where
     parts : (first (frameRefusals width height) ≡ 0) × (first (rasterRefusals width height raster) ≡ 0)
-    parts = first-both (frameRefusals width height) (rasterRefusals width height raster) tt (sym (ap (λ h. first (frameOf h ++ rasterOf h)) e) ∙ unbroken .1)
+    parts = first-both (frameRefusals width height) (rasterRefusals width height raster) tt
+        (sym (ap (λ h. first (frameOf h ++ rasterOf h)) e) ∙ unbroken .1)
 
     pub sheet-sound : SoundSheet width height (cleared width height raster)
     sheet-sound =
         let s = frame-sides width height (parts .0) in
-        record { width-some = s .0 .0; width-most = s .0 .1; height-some = s .1 .0; height-most = s .1 .1; size = length-cleared width height raster }
+        record {
+          width-some = s .0 .0;
+          width-most = s .0 .1;
+          height-some = s .1 .0;
+          height-most = s .1 .1;
+          size = length-cleared width height raster;
+        }
 
     sheet-within : length (cleared width height raster) ≤ length input
     sheet-within =
         let size = height * rowBytes width in
-        let l = ltb-false (length raster) size (passed 23 (ltb (length raster) size) ((24, ltb size (length raster)) ∷ []) (λ n. omega arith) (parts .1) .0) in
+        let l = ltb-false (length raster) size
+        (passed 23 (ltb (length raster) size) ((24, ltb size (length raster)) ∷ []) (λ n. omega arith) (parts .1) .0) in
         let w = raster-within input width height raster e in
         let s = length-cleared width height raster in
         omega arith
@@ -98,16 +114,19 @@ pub record Found (input : List ℕ) (width height size : ℕ) (room : List ℕ) 
 
 module _ (input room : List ℕ) (small : length input < 65536) (space : 65536 ≤ length room) where
   same-refusals : first (readRefusals input room) ≡ first (fileRefusals input)
-  same-refusals = room-idle (headerRefusals input) room (header input) (λ width height raster e. let w = raster-within input width height raster e in omega arith)
+  same-refusals = room-idle (headerRefusals input) room (header input)
+      (λ width height raster e. let w = raster-within input width height raster e in omega arith)
 
-  found-whole : first (fileRefusals input) ≡ 0 → (width height : ℕ) (raster : List ℕ) → header input ≡ whole width height raster → Found input width height (height * rowBytes width) (begun (cleared width height raster) room)
+  found-whole : first (fileRefusals input) ≡ 0 → (width height : ℕ) (raster : List ℕ) → header input ≡ whole width height raster
+      → Found input width height (height * rowBytes width) (begun (cleared width height raster) room)
   found-whole none width height raster e =
       let sheet = cleared width height raster in
       let s = sheet-sound input none width height raster e in
       let size = s .size in
       let within = sheet-within input none width height raster e in
       let long = length-begun (cleared width height raster) room (omega arith) in
-      let front : take (height * rowBytes width) (begun sheet room) ≡ sheet = ap (λ n. take n (begun sheet room)) (sym size) ∙ take-begun sheet room in
+      let front : take (height * rowBytes width) (begun sheet room) ≡ sheet = ap (λ n. take n (begun sheet room)) (sym size)
+      ∙ take-begun sheet room in
       record {
         width-most = s .width-most;
         few = omega arith;
@@ -127,9 +146,13 @@ module _ (input room : List ℕ) (small : length input < 65536) (space : 65536 �
       found : Found input width height (height * rowBytes width) after
       found = let none = sym number-is ∙ z in go none (header input) refl (unbroken input none .0) (a .accepted z)
         where
-          go : first (fileRefusals input) ≡ 0 → (h : Header) → header input ≡ h → isBroken h ≡ false → _≡_ {A = ℕ × ℕ × List ℕ} (width, height, after) (readAnswer h room) → Found input width height (height * rowBytes width) after
+          go : first (fileRefusals input) ≡ 0 → (h : Header) → header input ≡ h → isBroken h ≡ false
+              → _≡_ {A = ℕ × ℕ × List ℕ} (width, height, after) (readAnswer h room)
+              → Found input width height (height * rowBytes width) after
           go none broken e b q = absurd (false≢true (sym b))
-          go none (whole w h raster) e b q = subst (λ (x : ℕ × ℕ × List ℕ). Found input (x .0) (x .1) (x .1 * rowBytes (x .0)) (x .2)) (sym q) (found-whole none w h raster e)
+          go none (whole w h raster) e b q =
+              subst (λ (x : ℕ × ℕ × List ℕ). Found input (x .0) (x .1) (x .1 * rowBytes (x .0)) (x .2)) (sym q)
+              (found-whole none w h raster e)
 
       -- the row's bytes as they were counted
       pub read-found : (row : ℕ) → row ≡ rowBytes width → Found input width height (height * row) after

@@ -1,4 +1,5 @@
--- No level of an erosion is above the larger side of the frame: eroding by that side moves some point of the frame beyond it. So the writer finds no level above the maximum that it states.
+-- No level of an erosion is above the larger side of the frame: eroding by that side moves some point of the frame beyond it. So
+-- the writer finds no level above the maximum that it states.
 use Prim.Native.Nat.{ℕ, zero, suc, _+_, _-_, _*_, _/_, _%_, _≤_, _<_, max}
 use native.Mathlib.Decide.{decLt}
 use native.Mathlib.Omega.{arith}
@@ -22,14 +23,14 @@ use Rattle.row.specs.RowRule.{none}
 use Rattle.run.specs.Starting.{startLevels}
 use Rattle.run.proofs.Demand2.{erosion-picture}
 use Rattle.pgm.specs.Lines as lines
-use Rattle.pgm.specs.WritePgm.{anyAbove}
 use Rattle.pgm.specs.Writing.{Small}
 use Rattle.printing.specs.Printing.{cross, crossRun, crossLevels}
 use Rattle.printing.specs.Steps.{SoundSheet}
 use Rattle.printing.proofs.CrossLaws.{cross-accepted, starts}
 
 -- a level at a point of the frame
-level-bound : (width height : ℕ) (sheet : List ℕ) (side : ℕ) (bytes : List ℕ) → Accepted side bytes → (x : Point) → frame width height x → (m : ℕ)
+level-bound : (width height : ℕ) (sheet : List ℕ) (side : ℕ) (bytes : List ℕ) → Accepted side bytes → (x : Point)
+    → frame width height x → (m : ℕ)
     → IsErosionLevel (foreground width height sheet) (elementSet side bytes) x m → m ≤ max width height
 level-bound width height sheet side bytes given x inside m level = go (decLt (max width height) m)
   where
@@ -40,16 +41,22 @@ level-bound width height sheet side bytes given x inside m level = go (decLt (ma
         let k = m - 1 in
         let other = accepted-other side bytes given in
         let held = level .holds k (let e : m ≡ suc k = omega arith in e) in
-        let far = fold-grows (elementSet side bytes) (accepted-origin side bytes given) n k (omega arith) (times n (other .0)) (times-fold (elementSet side bytes) (other .0) (other .1) n) in
-        absurd (leaves width height (other .0) x (other .2) inside (figure-in width height (pixel width sheet) _ (held (times n (other .0)) far)))
+        let far = fold-grows (elementSet side bytes) (accepted-origin side bytes given) n k (omega arith) (times n (other .0))
+        (times-fold (elementSet side bytes) (other .0) (other .1) n) in
+        absurd (leaves width height (other .0) x (other .2) inside
+        (figure-in width height (pixel width sheet) _ (held (times n (other .0)) far)))
 
 -- the levels that the program collects mean what they should
-pub levels-mean : (width height : ℕ) (sheet : List ℕ) → SoundSheet width height sheet → LevelsMean width height (IsErosionLevel (foreground width height sheet) (elementSet 3 cross)) (crossLevels width height sheet)
+pub levels-mean : (width height : ℕ) (sheet : List ℕ) → SoundSheet width height sheet
+    → LevelsMean width height (IsErosionLevel (foreground width height sheet) (elementSet 3 cross))
+    (crossLevels width height sheet)
 levels-mean width height sheet s =
     let lent : List ℕ = replicate (height * width) 0 in
-    erosion-picture width height sheet 3 cross lent (crossRun width height) (startLevels width height 0 sheet none 0) (starts width height sheet s lent (length-replicate (height * width) 0)) .0
+    erosion-picture width height sheet 3 cross lent (crossRun width height) (startLevels width height 0 sheet none 0)
+    (starts width height sheet s lent (length-replicate (height * width) 0)) .0
 
-pub levels-bound : (width height : ℕ) (sheet : List ℕ) → SoundSheet width height sheet → (k : ℕ) → k < height * width → getD (crossLevels width height sheet) k 0 ≤ max width height
+pub levels-bound : (width height : ℕ) (sheet : List ℕ) → SoundSheet width height sheet → (k : ℕ) → k < height * width
+    → getD (crossLevels width height sheet) k 0 ≤ max width height
 levels-bound width height sheet s k l =
     let row = k / width in
     let col = k % width in
@@ -57,15 +64,17 @@ levels-bound width height sheet s k l =
     let b = column-below width height k l in
     let e = entry-of width k in
     let m = getD (crossLevels width height sheet) (row * width + col) 0 in
-    let q = level-bound width height sheet 3 cross (accepted 3 cross cross-accepted) (at (pos row) (pos col)) (row, col, a, b, refl) m (levels-mean width height sheet s row col a b) in
+    let q = level-bound width height sheet 3 cross (accepted 3 cross cross-accepted) (at (pos row) (pos col)) (
+      row,
+      col,
+      a,
+      b,
+      refl,
+    ) m (levels-mean width height sheet s row col a b) in
     subst (λ i. getD (crossLevels width height sheet) i 0 ≤ max width height) e q
 
--- a bound on each level, as the writer asks for it
-pub none-above : (limit : ℕ) (levels : List ℕ) → ((k : ℕ) → k < length levels → getD levels k 0 ≤ limit) → anyAbove limit levels ≡ false
-unfolding anyAbove
-none-above limit [] h = refl
-none-above limit (level ∷ rest) h = rw (le-ltb limit level (h zero (omega arith))) (none-above limit rest (λ k l. h (suc k) (omega arith)))
-
-pub all-small : (limit : ℕ) → limit < 65536 → (levels : List ℕ) → ((k : ℕ) → k < length levels → getD levels k 0 ≤ limit) → Small levels
+pub all-small : (limit : ℕ) → limit < 65536 → (levels : List ℕ) → ((k : ℕ) → k < length levels → getD levels k 0 ≤ limit)
+    → Small levels
 all-small limit l [] h = lines.none
-all-small limit l (level ∷ rest) h = let a = h zero (omega arith) in lines.more {x = level} (omega arith) (all-small limit l rest (λ k b. h (suc k) (omega arith)))
+all-small limit l (level ∷ rest) h = let a = h zero (omega arith) in
+    lines.more {x = level} (omega arith) (all-small limit l rest (λ k b. h (suc k) (omega arith)))

@@ -1,4 +1,5 @@
--- The picture of a sound file shows the erosion levels of its foreground: what the finished run means, carried from the cleared sheet to the raster, which has the same pixels.
+-- The picture of a sound file shows the erosion levels of its foreground: what the finished run means, carried from the cleared
+-- sheet to the raster, which has the same pixels.
 use Prim.Native.Nat.{ℕ, _+_, _*_, max}
 use native.Mathlib.Omega.{arith}
 use mathlib.Core.Path.{_≡_, sym, ap, _∙_}
@@ -31,7 +32,8 @@ module _ (width height : ℕ) (raster : List ℕ) where
 
 -- the same set has the same levels
 level-same : (A B K : PointSet) → A ⊆ B → B ⊆ A → (x : Point) (m : ℕ) → IsErosionLevel A K x m → IsErosionLevel B K x m
-level-same A B K f g x m level = record { holds = λ k e b h. f (x ⊕ b) (level .holds k e b h); above = λ j held. level .above j (λ b h. g (x ⊕ b) (held b h)) }
+level-same A B K f g x m level =
+    record { holds = λ k e b h. f (x ⊕ b) (level .holds k e b h); above = λ j held. level .above j (λ b h. g (x ⊕ b) (held b h)) }
 
 -- THE THEOREM
 pub printed-levels : PrintedLevels
@@ -42,6 +44,9 @@ printed-levels input width height raster small e none l =
     let s = sheet-sound input none width height raster e in (
       levels,
       levels-length width height sheet,
-      sym (file-sound input small none) ∙ ap soundText e ∙ sym (few width height sheet l) ∙ ap (λ n. pgmText width height (max width height) n n levels) all-rows,
-      (λ row col a b. level-same (foreground width height sheet) (foreground width height raster) (elementSet 3 cross) (fewer width height raster) (more width height raster) (at (pos row) (pos col)) (getD levels (row * width + col) 0) (levels-mean width height sheet s row col a b)),
+      sym (file-sound input small none) ∙ ap soundText e ∙ sym (few width height sheet l)
+          ∙ ap (λ n. pgmText width height (max width height) n n levels) all-rows,
+      (λ row col a b. level-same (foreground width height sheet) (foreground width height raster) (elementSet 3 cross)
+          (fewer width height raster) (more width height raster) (at (pos row) (pos col)) (getD levels (row * width + col) 0)
+          (levels-mean width height sheet s row col a b)),
     )

@@ -39,5 +39,8 @@ module _ (number : ℕ) (out : List ℕ) (pre : (number < 4294967296) × (98432 
         let same = wrote-length ((word ++ digits number) ++ (10 ∷ [])) 0 out c n room w in
         let e = w .place in
         let r = room in
-        let f = wrote-front w in
-        (omega arith, ap₂ take (f .0) (f .1) ∙ take-begun ((word ++ digits number) ++ (10 ∷ [])) out ∙ append-assoc word (digits number) (10 ∷ []))
+        let f = wrote-front w in (
+          omega arith,
+          ap₂ take (f .0) (f .1) ∙ take-begun ((word ++ digits number) ++ (10 ∷ [])) out
+              ∙ append-assoc word (digits number) (10 ∷ []),
+        )

@@ -30,11 +30,13 @@ abbrev pub crossRun : ℕ → ℕ → Record
 crossRun width height = startRecord 1 width height 0 3 cross
 
 abbrev pub crossLevels : ℕ → ℕ → List ℕ → List ℕ
-crossLevels width height sheet = collected (crossRun width height) (finished (crossRun width height) (startLevels width height 0 sheet none 0))
+crossLevels width height sheet =
+    collected (crossRun width height) (finished (crossRun width height) (startLevels width height 0 sheet none 0))
 
 unfoldable pub sheetText : ℕ → ℕ → List ℕ → List ℕ
 sheetText width height sheet =
-    cond (ltb 16384 (width * height)) (refusedText 10) (picture (withRows (crossRun width height) (due (crossRun width height))) (crossLevels width height sheet))
+    cond (ltb 16384 (width * height)) (refusedText 10)
+    (picture (withRows (crossRun width height) (due (crossRun width height))) (crossLevels width height sheet))
 
 -- 21, 22, 2, 23, 24 of a file; the program's room is never short
 abbrev pub rasterOf : Header → List Refusal

@@ -25,7 +25,8 @@ fn run_erosion(
     levels: &mut [u16],
     collected: &mut [u16],
 ) -> Record
-    requires { ⌜ SoundSheet width height (now sheet) × ((length (now levels) ≡ height * width) × (length (now collected) ≡ height * width)) ⌝ }
+    requires { ⌜ SoundSheet width height (now sheet) ×
+        ((length (now levels) ≡ height * width) × (length (now collected) ≡ height * width)) ⌝ }
     ensures { λ r. ⌜ (r ≡ withRows (crossRun width height) (due (crossRun width height))) ×
         (now (collected .exit) ≡ crossLevels width height (now (sheet .entry))) ⌝ }
 {

@@ -1,4 +1,5 @@
--- The partners that a cell leads to in one row: the columns whose partner is beyond the left edge, those that have one in the row, those whose partner is beyond the right edge.
+-- The partners that a cell leads to in one row: the columns whose partner is beyond the left edge, those that have one in the
+-- row, those whose partner is beyond the right edge.
 -- Each of the three stretches is a pass by the partners' levels, and the three join.
 use Prim.Native.Nat.{ℕ, _+_, _-_, _≤_, _<_, min}
 use native.Mathlib.Omega.{arith}
@@ -48,20 +49,26 @@ module _ (width across left right n : ℕ) (l : left ≡ min (3 - across) width)
 
 module _ (width from beyond at across : ℕ) (levels : List ℕ) (apart : (from + width ≤ at) ⊎ (at + width ≤ from)) where
   joined : (left right n : ℕ) (one two three : List ℕ) → left + n + right ≡ width →
-      ((j : ℕ) → j < left → j + across < 3) → ((j : ℕ) → j < n → left + across ≡ right + 3) → ((j : ℕ) → j < right → width + 3 ≤ left + n + j + across) →
-      Pass at left (λ j. beyond) levels one → Pass (at + left) n (λ j. getD one (from + right + j) 0) one two → Pass (at + left + n) right (λ j. beyond) two three →
+      ((j : ℕ) → j < left → j + across < 3) → ((j : ℕ) → j < n → left + across ≡ right + 3)
+      → ((j : ℕ) → j < right → width + 3 ≤ left + n + j + across) →
+      Pass at left (λ j. beyond) levels one → Pass (at + left) n (λ j. getD one (from + right + j) 0) one two
+      → Pass (at + left + n) right (λ j. beyond) two three →
       Pass at width (λ col. columnAt width from beyond levels (col + across)) levels three
   joined left right n one two three all low same high P Q R =
       let f : ℕ → ℕ = λ col. columnAt width from beyond levels (col + across) in
       let kept : (k : ℕ) → k < width → getD one (from + k) 0 ≡ getD levels (from + k) 0 =
-      λ k h. ⊎-elim (λ (q : from + width ≤ at). P .earlier (from + k) (omega arith)) (λ (q : at + width ≤ from). P .later (from + k) (omega arith)) apart in
-      let P′ : Pass at left f levels one = pass-as at left levels (λ j. beyond) f one (λ j h. ap more (sym (column-out width from beyond levels (j + across) (inl (low j h))))) P in
+      λ k h. ⊎-elim (λ (q : from + width ≤ at). P .earlier (from + k) (omega arith))
+      (λ (q : at + width ≤ from). P .later (from + k) (omega arith)) apart in
+      let P′ : Pass at left f levels one =
+      pass-as at left levels (λ j. beyond) f one
+      (λ j h. ap more (sym (column-out width from beyond levels (j + across) (inl (low j h))))) P in
       let Q′ : Pass (at + left) n (λ j. f (left + j)) one two =
       pass-as (at + left) n one (λ j. getD one (from + right + j) 0) (λ j. f (left + j)) two
       (λ j h.
       let s : left + across ≡ right + 3 = same j h in
       let e : from + right + j ≡ from + (left + j + across - 3) = omega arith in
-      ap more (rw e (kept (left + j + across - 3) (omega arith) ∙ sym (column-in width from beyond levels (left + j + across) (omega arith) (omega arith)))))
+      ap more (rw e (kept (left + j + across - 3) (omega arith)
+      ∙ sym (column-in width from beyond levels (left + j + across) (omega arith) (omega arith)))))
       Q in
       let order : at + left + n ≡ at + (left + n) = omega arith in
       let R′ : Pass (at + (left + n)) right (λ j. f (left + n + j)) two three =
@@ -69,12 +76,15 @@ module _ (width from beyond at across : ℕ) (levels : List ℕ) (apart : (from 
       (λ j h. ap more (sym (column-out width from beyond levels (left + n + j + across) (inr (high j h))))) (rw order at R) in
       rw all at (pass-join at f levels (left + n) right two three (pass-join at f levels left n one two P′ Q′) R′)
 
-  pub by-stretches : (left right n : ℕ) (one two three : List ℕ) → left ≡ min (3 - across) width → right ≡ min (across - 3) width → n ≡ width - left - right →
-      Pass at left (λ j. beyond) levels one → Pass (at + left) n (λ j. getD one (from + right + j) 0) one two → Pass (at + left + n) right (λ j. beyond) two three →
+  pub by-stretches : (left right n : ℕ) (one two three : List ℕ) → left ≡ min (3 - across) width → right ≡ min (across - 3) width
+      → n ≡ width - left - right →
+      Pass at left (λ j. beyond) levels one → Pass (at + left) n (λ j. getD one (from + right + j) 0) one two
+      → Pass (at + left + n) right (λ j. beyond) two three →
       Pass at width (λ col. columnAt width from beyond levels (col + across)) levels three
   by-stretches left right n one two three l r m P Q R =
       let all : left + n + right ≡ width = whole width across left right n l r m in
-      joined left right n one two three all (over-left width across left right n l r) (between width across left right n l r all) (over-right width across left right n l r all) P Q R
+      joined left right n one two three all (over-left width across left right n l r) (between width across left right n l r all)
+      (over-right width across left right n l r all) P Q R
 
 -- the middle stretch of the row and the levels that it reads lie apart as the two rows do
 pub stretch-apart : (width from at left right n : ℕ) → left + n + right ≤ width → (from + width ≤ at) ⊎ (at + width ≤ from) →

@@ -1,4 +1,5 @@
--- The least level among the partners of a run of cells: it splits at any cell, and where the cells lie in other rows of the element it is the same in levels that differ in the own row alone.
+-- The least level among the partners of a run of cells: it splits at any cell, and where the cells lie in other rows of the
+-- element it is the same in levels that differ in the own row alone.
 -- So the passes of single cells of other rows add up to one pass by the least of them all.
 use Prim.Native.Nat.{ℕ, zero, suc, _+_, _-_, _*_, _/_, _%_, _≤_, _<_, min}
 use native.Mathlib.Nat.{add-zero, zero-add, suc-add, mul-le-mul-right, suc-mul}
@@ -26,7 +27,8 @@ module _ (area : Area) (levels : List ℕ) (row col : ℕ) where
   least-small k zero = omega arith
   least-small k (suc n) = omega (arith, least-small (suc k) n)
 
-  pub least-split : (k m n : ℕ) → least area levels row col k (m + n) ≡ min (least area levels row col k m) (least area levels row col (k + m) n)
+  pub least-split : (k m n : ℕ)
+      → least area levels row col k (m + n) ≡ min (least area levels row col k m) (least area levels row col (k + m) n)
   unfolding least
   least-split k zero n =
       let l : least area levels row col k n ≤ none = least-small k n in
@@ -34,7 +36,8 @@ module _ (area : Area) (levels : List ℕ) (row col : ℕ) where
       rw (zero-add, add-zero) q
   least-split k (suc m) n =
       let q : k + suc m ≡ suc k + m = omega arith in
-      rw (suc-add, q, least-split (suc k) m n) (shift (partner area levels row col k) (least area levels row col (suc k) m) (least area levels row col (suc k + m) n))
+      rw (suc-add, q, least-split (suc k) m n)
+      (shift (partner area levels row col k) (least area levels row col (suc k) m) (least area levels row col (suc k + m) n))
     where
       shift : (a b c : ℕ) → min a (min b c) ≡ min (min a b) c
       shift a b c = omega arith
@@ -44,19 +47,22 @@ module _ (area : Area) (levels : List ℕ) (row col : ℕ) where
   unfolding least partner
   cell-unset k z = rw (eq-eqb _ _ z)
 
-  cell-set : (k : ℕ) → (cellNumber (area .cells) k ≡ 0 → ⊥) → more (levelAt area levels (row + k / 7) (col + k % 7)) ≡ more (least area levels row col k 1)
+  cell-set : (k : ℕ) → (cellNumber (area .cells) k ≡ 0 → ⊥)
+      → more (levelAt area levels (row + k / 7) (col + k % 7)) ≡ more (least area levels row col k 1)
   unfolding least partner
   cell-set k z = rw (ne-eqb _ _ z) (capped (levelAt area levels (row + k / 7) (col + k % 7)))
     where
       capped : (a : ℕ) → more a ≡ more (min a none)
       capped a = omega arith
 
-  cell-beyond : (k : ℕ) → (cellNumber (area .cells) k ≡ 0 → ⊥) → within (area .height) (row + k / 7) ≡ false → more (area .beyond) ≡ more (least area levels row col k 1)
+  cell-beyond : (k : ℕ) → (cellNumber (area .cells) k ≡ 0 → ⊥) → within (area .height) (row + k / 7) ≡ false
+      → more (area .beyond) ≡ more (least area levels row col k 1)
   unfolding levelAt
   cell-beyond k z out = rw out at (cell-set k z)
 
   cell-in : (k : ℕ) → (cellNumber (area .cells) k ≡ 0 → ⊥) → within (area .height) (row + k / 7) ≡ true →
-      more (columnAt (area .width) ((row + k / 7 - 3) * area .width) (area .beyond) levels (col + k % 7)) ≡ more (least area levels row col k 1)
+      more (columnAt (area .width) ((row + k / 7 - 3) * area .width) (area .beyond) levels (col + k % 7))
+      ≡ more (least area levels row col k 1)
   unfolding levelAt columnAt
   cell-in k z in-area = rw in-area at (cell-set k z)
 
@@ -81,25 +87,31 @@ module _ (area : Area) (row : ℕ) (levels after : List ℕ)
   level-same y x other =
       cond-same (within (area .height) y && within (area .width) x) _ _ (area .beyond)
       (λ q.
-      let in-rows : (3 ≤ y) × (y < area .height + 3) = within-true (area .height) y (both (within (area .height) y) (within (area .width) x) q .0) in
-      let in-row : (3 ≤ x) × (x < area .width + 3) = within-true (area .width) x (both (within (area .height) y) (within (area .width) x) q .1) in
+      let in-rows : (3 ≤ y) ×
+      (y < area .height + 3) = within-true (area .height) y (both (within (area .height) y) (within (area .width) x) q .0) in
+      let in-row : (3 ≤ x) × (x < area .width + 3) =
+      within-true (area .width) x (both (within (area .height) y) (within (area .width) x) q .1) in
       ⊎-elim
-      (λ (h : y < row + 3). earlier ((y - 3) * area .width + (x - 3)) (omega (arith, row-end (area .width) (y - 3) row (omega arith))))
-      (λ (h : row + 3 < y). later ((y - 3) * area .width + (x - 3)) (omega (arith, row-end (area .width) row (y - 3) (omega arith))))
+      (λ (h : y < row + 3). earlier ((y - 3) * area .width + (x - 3))
+      (omega (arith, row-end (area .width) (y - 3) row (omega arith))))
+      (λ (h : row + 3 < y). later ((y - 3) * area .width + (x - 3))
+      (omega (arith, row-end (area .width) row (y - 3) (omega arith))))
       other)
 
   partner-same : (col k : ℕ) → (k < 21) ⊎ (28 ≤ k) → partner area after row col k ≡ partner area levels row col k
   unfolding partner
   partner-same col k other =
       ap (λ (x : ℕ). cond (eqb (cellNumber (area .cells) k) 0) none x)
-      (level-same (row + k / 7) (col + k % 7) (⊎-elim (λ (h : k < 21). inl (omega arith)) (λ (h : 28 ≤ k). inr (omega arith)) other))
+      (level-same (row + k / 7) (col + k % 7)
+      (⊎-elim (λ (h : k < 21). inl (omega arith)) (λ (h : 28 ≤ k). inr (omega arith)) other))
 
   pub least-same : (col k n : ℕ) → (k + n ≤ 21) ⊎ (28 ≤ k) → least area after row col k n ≡ least area levels row col k n
   unfolding least
   least-same col k zero other = refl
   least-same col k (suc n) other =
       let here : (k < 21) ⊎ (28 ≤ k) = ⊎-elim (λ (h : k + suc n ≤ 21). inl (omega arith)) (λ (h : 28 ≤ k). inr h) other in
-      let there : (suc k + n ≤ 21) ⊎ (28 ≤ suc k) = ⊎-elim (λ (h : k + suc n ≤ 21). inl (omega arith)) (λ (h : 28 ≤ k). inr (omega arith)) other in
+      let there : (suc k + n ≤ 21) ⊎ (28 ≤ suc k) =
+      ⊎-elim (λ (h : k + suc n ≤ 21). inl (omega arith)) (λ (h : 28 ≤ k). inr (omega arith)) other in
       rw (partner-same col k here, least-same col (suc k) n there)
 
 -- the passes of the cells of other rows, one after the other
@@ -108,10 +120,12 @@ pub pass-cell : (area : Area) (row first n : ℕ) (levels between after : List �
     Pass (row * area .width) (area .width) (λ col. least area between row col (first + n) 1) between after →
     Pass (row * area .width) (area .width) (λ col. least area levels row col first (n + 1)) levels after
 pass-cell area row first n levels between after other P Q =
-    let cell : (first + n + 1 ≤ 21) ⊎ (28 ≤ first + n) = ⊎-elim (λ (h : first + (n + 1) ≤ 21). inl (omega arith)) (λ (h : 28 ≤ first). inr (omega arith)) other in
+    let cell : (first + n + 1 ≤ 21) ⊎ (28 ≤ first + n) =
+    ⊎-elim (λ (h : first + (n + 1) ≤ 21). inl (omega arith)) (λ (h : 28 ≤ first). inr (omega arith)) other in
     pass-as _ _ levels _ _ after
     (λ col h. ap more
-    (ap (λ (x : ℕ). min (least area levels row col first n) x) (least-same area row levels between (P .earlier) (P .later) col (first + n) 1 cell)
+    (ap (λ (x : ℕ). min (least area levels row col first n) x)
+    (least-same area row levels between (P .earlier) (P .later) col (first + n) 1 cell)
     ∙ sym (least-split area levels row col first n 1)))
     (pass-and _ _ levels _ _ between after P Q)
 
@@ -123,13 +137,16 @@ row-inside width rows y q =
 
 pub row-apart : (width rows row k : ℕ) → within rows (row + k / 7) ≡ true → (k < 21) ⊎ (28 ≤ k) →
     ((row + k / 7 - 3) * width + width ≤ row * width) ⊎ (row * width + width ≤ (row + k / 7 - 3) * width)
-row-apart width rows row k q (inl h) = inl (row-end width (row + k / 7 - 3) row (omega (arith, within-true rows (row + k / 7) q .0)))
+row-apart width rows row k q (inl h) =
+    inl (row-end width (row + k / 7 - 3) row (omega (arith, within-true rows (row + k / 7) q .0)))
 row-apart width rows row k q (inr h) = inr (row-end width row (row + k / 7 - 3) (omega arith))
 
 -- the pass of one cell: not set, its row beyond the area, its row in the area
 module _ (area : Area) (row k : ℕ) (levels : List ℕ) where
-  pub pass-unset : cellNumber (area .cells) k ≡ 0 → ((i : ℕ) → getD levels i 0 < 65536) → Pass (row * area .width) (area .width) (λ col. least area levels row col k 1) levels levels
-  pass-unset z small = pass-as _ _ levels _ _ levels (λ col h. ap more (sym (cell-unset area levels row col k z))) (pass-none _ _ levels small)
+  pub pass-unset : cellNumber (area .cells) k ≡ 0 → ((i : ℕ) → getD levels i 0 < 65536)
+      → Pass (row * area .width) (area .width) (λ col. least area levels row col k 1) levels levels
+  pass-unset z small = pass-as _ _ levels _ _ levels (λ col h. ap more (sym (cell-unset area levels row col k z)))
+      (pass-none _ _ levels small)
 
   pub pass-beyond : (after : List ℕ) → (cellNumber (area .cells) k ≡ 0 → ⊥) → within (area .height) (row + k / 7) ≡ false →
       Pass (row * area .width) (area .width) (λ col. area .beyond) levels after →
@@ -137,12 +154,14 @@ module _ (area : Area) (row k : ℕ) (levels : List ℕ) where
   pass-beyond after z out P = pass-as _ _ levels _ _ after (λ col h. cell-beyond area levels row col k z out) P
 
   pub pass-in : (after : List ℕ) → (cellNumber (area .cells) k ≡ 0 → ⊥) → within (area .height) (row + k / 7) ≡ true →
-      Pass (row * area .width) (area .width) (λ col. columnAt (area .width) ((row + k / 7 - 3) * area .width) (area .beyond) levels (col + k % 7)) levels after →
+      Pass (row * area .width) (area .width)
+      (λ col. columnAt (area .width) ((row + k / 7 - 3) * area .width) (area .beyond) levels (col + k % 7)) levels after →
       Pass (row * area .width) (area .width) (λ col. least area levels row col k 1) levels after
   pass-in after z in-area P = pass-as _ _ levels _ _ after (λ col h. cell-in area levels row col k z in-area) P
 
 -- the 21 cells of other rows are those before cell 21, or those from cell 28 on
-pub other-cells : (upward : Bool) (first n : ℕ) → first ≡ firstOther upward → n < 21 → (first + n < 49) × ((first + (n + 1) ≤ 21) ⊎ (28 ≤ first))
+pub other-cells : (upward : Bool) (first n : ℕ) → first ≡ firstOther upward → n < 21
+    → (first + n < 49) × ((first + (n + 1) ≤ 21) ⊎ (28 ≤ first))
 unfolding firstOther
 other-cells false first n q h = (omega arith, inl (omega arith))
 other-cells true first n q h = (omega arith, inr (omega arith))

@@ -1,4 +1,5 @@
--- The own row, column by column: the columns worked at different turns are different, so that a level worked stays as it is, and three of them can be kept in locals.
+-- The own row, column by column: the columns worked at different turns are different, so that a level worked stays as it is, and
+-- three of them can be kept in locals.
 use Prim.Native.Nat.{ℕ, zero, suc, _+_, _-_, _≤_, _<_, min}
 use native.Mathlib.Numerals.{add-one}
 use native.Mathlib.Omega.{arith}
@@ -19,7 +20,8 @@ unfolding place
 place-in false width t h = h
 place-in true width t h = omega arith
 
-pub place-apart : (upward : Bool) (width s t : ℕ) → s < width → t < width → (s ≡ t → ⊥) → place upward width s ≡ place upward width t → ⊥
+pub place-apart : (upward : Bool) (width s t : ℕ) → s < width → t < width → (s ≡ t → ⊥)
+    → place upward width s ≡ place upward width t → ⊥
 unfolding place
 place-apart false width s t h k apart q = apart q
 place-apart true width s t h k apart q = apart (omega arith)
@@ -45,10 +47,15 @@ both level a b c d p q = apart level a b ∙ rw (p, q) (sym (apart level c d))
     apart x y z = omega arith
 
 by-steps : (level one two three near middle far : ℕ) → level ≤ none →
-    min level (min (near + step one) (min (middle + step two) (far + step three))) ≡ min level (more (nearest one two three near middle far))
+    min level (min (near + step one) (min (middle + step two) (far + step three)))
+    ≡ min level (more (nearest one two three near middle far))
 by-steps level one two three near middle far small =
-    both level _ _ _ _ (by-step level one near small) (both level _ _ _ _ (by-step level two middle small) (by-step level three far small))
-    ∙ rw (more-least (picked one near) (min (picked two middle) (picked three far)), more-least (picked two middle) (picked three far))
+    both level _ _ _ _ (by-step level one near small)
+    (both level _ _ _ _ (by-step level two middle small) (by-step level three far small))
+    ∙ rw (
+      more-least (picked one near) (min (picked two middle) (picked three far)),
+      more-least (picked two middle) (picked three far),
+    )
 
 module _ (upward : Bool) (width start beyond : ℕ) where
   worked-now : (levels : List ℕ) (t level : ℕ) → t < width → start + width ≤ length levels →
@@ -57,10 +64,12 @@ module _ (upward : Bool) (width start beyond : ℕ) where
   worked-now levels t level h room =
       let q : t + 1 - 1 ≡ t = omega arith in
       let p : 1 ≤ t + 1 = omega arith in
-      simp (le-leb _ _ p, q) (getD-set-same levels (start + place upward width t) level 0 (omega (arith, place-in upward width t h)))
+      simp (le-leb _ _ p, q) (getD-set-same levels (start + place upward width t) level 0
+      (omega (arith, place-in upward width t h)))
 
   worked-next : (levels : List ℕ) (t level d : ℕ) → t < width → 1 ≤ d →
-      worked upward width start beyond (set levels (start + place upward width t) level) (t + 1) (d + 1) ≡ worked upward width start beyond levels t d
+      worked upward width start beyond (set levels (start + place upward width t) level) (t + 1) (d + 1)
+      ≡ worked upward width start beyond levels t d
   unfolding worked
   worked-next levels t level d h back =
       ⊎-elim
@@ -72,7 +81,11 @@ module _ (upward : Bool) (width start beyond : ℕ) where
       let q : t + 1 - (d + 1) ≡ t - d = omega arith in
       let apart : start + place upward width (t - d) ≡ start + place upward width t → ⊥ =
       λ e. place-apart upward width (t - d) t (omega arith) h (λ z. omega arith) (omega arith) in
-      simp (le-leb _ _ m, le-leb _ _ p, q) (getD-set-other levels (start + place upward width t) (start + place upward width (t - d)) level 0 apart))
+      simp (
+        le-leb _ _ m,
+        le-leb _ _ p,
+        q,
+      ) (getD-set-other levels (start + place upward width t) (start + place upward width (t - d)) level 0 apart))
       (ordered t d)
 
   -- after t turns, with the three levels worked last in locals
@@ -85,16 +98,19 @@ module _ (upward : Bool) (width start beyond : ℕ) where
 
   pub kept-start : (one two three : ℕ) (entry : List ℕ) → beyond ≤ none → Kept one two three 0 beyond beyond beyond entry entry
   unfolding worked ownColumns
-  kept-start one two three entry small = record { near-is = refl; middle-is = refl; far-is = refl; small = (small, (small, small)); so-far = refl }
+  kept-start one two three entry small =
+      record { near-is = refl; middle-is = refl; far-is = refl; small = (small, (small, small)); so-far = refl }
 
-  pub kept-turn : (one two three t near middle far level : ℕ) (entry levels after : List ℕ) → t < width → start + width ≤ length levels →
+  pub kept-turn : (one two three t near middle far level : ℕ) (entry levels after : List ℕ) → t < width
+      → start + width ≤ length levels →
       Kept one two three t near middle far entry levels →
       Lowest levels after (start + place upward width t) (near + step one) (middle + step two) (far + step three) level →
       Kept one two three (t + 1) level near middle entry after
   unfolding ownColumns ownPoint
   kept-turn one two three t near middle far level entry levels after turn room K L =
       let at : ℕ = start + place upward width t in
-      let low : level ≡ min (getD levels at 0) (more (nearest one two three near middle far)) = L .value ∙ by-steps (getD levels at 0) one two three near middle far (L .small) in
+      let low : level ≡ min (getD levels at 0) (more (nearest one two three near middle far)) = L .value
+      ∙ by-steps (getD levels at 0) one two three near middle far (L .small) in
       record {
         near-is = rw (L .stored) (sym (worked-now levels t level turn room));
         middle-is = rw (L .stored) (K .near-is ∙ sym (worked-next levels t level 1 turn (omega arith)));
@@ -104,10 +120,17 @@ module _ (upward : Bool) (width start beyond : ℕ) where
       }
 
   -- where none of the three cells is set, nothing changes
-  pub own-unset : (one two three t : ℕ) (levels : List ℕ) → one + two + three ≡ 0 → ((i : ℕ) → getD levels i 0 < 65536) → ownColumns upward width start one two three beyond t levels ≡ levels
+  pub own-unset : (one two three t : ℕ) (levels : List ℕ) → one + two + three ≡ 0 → ((i : ℕ) → getD levels i 0 < 65536)
+      → ownColumns upward width start one two three beyond t levels ≡ levels
   unfolding ownColumns ownPoint picked
   own-unset one two three zero levels unset small = refl
   own-unset one two three (suc t) levels unset small =
       let at : ℕ = start + place upward width t in
       let q : min (getD levels at 0) 65535 ≡ getD levels at 0 = omega (arith, small at) in
-      rw (own-unset one two three t levels unset small, eq-eqb one 0 (omega arith), eq-eqb two 0 (omega arith), eq-eqb three 0 (omega arith), q) (set-getD levels at 0)
+      rw (
+        own-unset one two three t levels unset small,
+        eq-eqb one 0 (omega arith),
+        eq-eqb two 0 (omega arith),
+        eq-eqb three 0 (omega arith),
+        q,
+      ) (set-getD levels at 0)

@@ -1,4 +1,5 @@
--- The laws of a pass over a stretch of the levels: it grows by one level, two that follow one another join, and two over the same stretch make one.
+-- The laws of a pass over a stretch of the levels: it grows by one level, two that follow one another join, and two over the same
+-- stretch make one.
 -- Each is shown level by level.
 use Prim.Native.Nat.{ℕ, _+_, _-_, _≤_, _<_, min}
 use native.Mathlib.Omega.{arith}
@@ -41,30 +42,35 @@ module _ (start : ℕ) (f : ℕ → ℕ) (levels : List ℕ) where
   }
 
   -- a turn of a loop that makes the pass level by level
-  pub pass-turn : (n : ℕ) (after stored : List ℕ) → start + n < length levels → stored ≡ set after (start + n) (min (getD after (start + n) 0) (more (f n))) →
+  pub pass-turn : (n : ℕ) (after stored : List ℕ) → start + n < length levels
+      → stored ≡ set after (start + n) (min (getD after (start + n) 0) (more (f n))) →
       Pass start n f levels after → Pass start (n + 1) f levels stored
   pass-turn n after stored room is P =
       let level : ℕ = min (getD after (start + n) 0) (more (f n)) in
       let long : length after ≡ length levels = P .size in
-      let other : (i : ℕ) → (i ≡ start + n → ⊥) → getD stored i 0 ≡ getD after i 0 = λ i h. rw is (getD-set-other after (start + n) i level 0 h) in
+      let other : (i : ℕ) → (i ≡ start + n → ⊥)
+      → getD stored i 0 ≡ getD after i 0 = λ i h. rw is (getD-set-other after (start + n) i level 0 h) in
       record {
         size = rw (is, length-set) long;
         inside = λ col h. ⊎-elim
             (λ (m : col < n). other (start + col) (λ q. omega arith) ∙ P .inside col m)
             (λ (m : n ≤ col).
             let q : col ≡ n = omega arith in
-            rw (q, is) (getD-set-same after (start + n) level 0 (omega arith) ∙ ap (λ (x : ℕ). min x (more (f n))) (P .later (start + n) (omega arith))))
+            rw (q, is) (getD-set-same after (start + n) level 0 (omega arith)
+            ∙ ap (λ (x : ℕ). min x (more (f n))) (P .later (start + n) (omega arith))))
             (ordered col n);
         earlier = λ i h. other i (λ q. omega arith) ∙ P .earlier i h;
         later = λ i h. other i (λ q. omega arith) ∙ P .later i (omega arith);
       }
 
   -- a level that is read before it is reached, or that the pass never reaches, is as it was
-  pub pass-unread : (from i n : ℕ) (after : List ℕ) → i < n → (from + n ≤ start) ⊎ (start + n ≤ from) → Pass start i f levels after → getD after (from + i) 0 ≡ getD levels (from + i) 0
+  pub pass-unread : (from i n : ℕ) (after : List ℕ) → i < n → (from + n ≤ start) ⊎ (start + n ≤ from)
+      → Pass start i f levels after → getD after (from + i) 0 ≡ getD levels (from + i) 0
   pass-unread from i n after h (inl apart) P = P .earlier (from + i) (omega arith)
   pass-unread from i n after h (inr apart) P = P .later (from + i) (omega arith)
 
-  pub pass-join : (m n : ℕ) (between after : List ℕ) → Pass start m f levels between → Pass (start + m) n (λ j. f (m + j)) between after → Pass start (m + n) f levels after
+  pub pass-join : (m n : ℕ) (between after : List ℕ) → Pass start m f levels between
+      → Pass (start + m) n (λ j. f (m + j)) between after → Pass start (m + n) f levels after
   pass-join m n between after P Q = record {
     size = Q .size ∙ P .size;
     inside = λ col h. ⊎-elim
@@ -72,14 +78,16 @@ module _ (start : ℕ) (f : ℕ → ℕ) (levels : List ℕ) where
         (λ (k : m ≤ col).
         let at : start + m + (col - m) ≡ start + col = omega arith in
         let on : m + (col - m) ≡ col = omega arith in
-        rw (at, on) at (Q .inside (col - m) (omega arith)) ∙ ap (λ (x : ℕ). min x (more (f col))) (P .later (start + col) (omega arith)))
+        rw (at, on) at (Q .inside (col - m) (omega arith))
+        ∙ ap (λ (x : ℕ). min x (more (f col))) (P .later (start + col) (omega arith)))
         (ordered col m);
     earlier = λ i h. Q .earlier i (omega arith) ∙ P .earlier i h;
     later = λ i h. Q .later i (omega arith) ∙ P .later i (omega arith);
   }
 
 module _ (start width : ℕ) (levels : List ℕ) where
-  pub pass-as : (f g : ℕ → ℕ) (after : List ℕ) → ((col : ℕ) → col < width → more (f col) ≡ more (g col)) → Pass start width f levels after → Pass start width g levels after
+  pub pass-as : (f g : ℕ → ℕ) (after : List ℕ) → ((col : ℕ) → col < width → more (f col) ≡ more (g col))
+      → Pass start width f levels after → Pass start width g levels after
   pass-as f g after same P = record {
     size = P .size;
     inside = λ col h. P .inside col h ∙ ap (λ (x : ℕ). min (getD levels (start + col) 0) x) (same col h);
@@ -87,10 +95,12 @@ module _ (start width : ℕ) (levels : List ℕ) where
     later = P .later;
   }
 
-  pub pass-and : (f g : ℕ → ℕ) (between after : List ℕ) → Pass start width f levels between → Pass start width g between after → Pass start width (λ col. min (f col) (g col)) levels after
+  pub pass-and : (f g : ℕ → ℕ) (between after : List ℕ) → Pass start width f levels between → Pass start width g between after
+      → Pass start width (λ col. min (f col) (g col)) levels after
   pass-and f g between after P Q = record {
     size = Q .size ∙ P .size;
-    inside = λ col h. Q .inside col h ∙ ap (λ (x : ℕ). min x (more (g col))) (P .inside col h) ∙ lower-twice (getD levels (start + col) 0) (f col) (g col);
+    inside = λ col h. Q .inside col h ∙ ap (λ (x : ℕ). min x (more (g col))) (P .inside col h)
+        ∙ lower-twice (getD levels (start + col) 0) (f col) (g col);
     earlier = λ i h. Q .earlier i h ∙ P .earlier i h;
     later = λ i h. Q .later i h ∙ P .later i h;
   }

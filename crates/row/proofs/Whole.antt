@@ -1,5 +1,6 @@
 -- The other rows first and the own row last give what the rule gives point by point.
--- After t turns of both: a column worked has the same level in both, and a column still to be worked is ahead by what the other rows give it, which is what they gave at entry.
+-- After t turns of both: a column worked has the same level in both, and a column still to be worked is ahead by what the other
+-- rows give it, which is what they gave at entry.
 use Prim.Native.Nat.{ℕ, zero, suc, _+_, _-_, _*_, _/_, _%_, _≤_, _<_, min}
 use native.Mathlib.Nat.{min-comm}
 use native.Mathlib.Omega.{arith}
@@ -11,7 +12,8 @@ use lib.ListN.{length, getD, set, length-set}
 use lib.Seq.{getD-set-same, getD-set-other, ext-getD}
 use lib.Dec.{eqb}
 use borrow.Author.Tests.{le-leb, lt-leb}
-use Rattle.row.specs.RowRule.{Area, none, more, cellNumber, levelAt, partner, least, firstMet, lowered, pointRule, place, columns, rowRule}
+use Rattle.row.specs.RowRule.{Area, none, more, cellNumber, levelAt, partner, least, firstMet, lowered, pointRule, place}
+use Rattle.row.specs.RowRule.{columns, rowRule}
 use Rattle.row.specs.Passes.{Pass, columnAt, firstOther, cellBack, worked, picked, nearest, ownPoint, ownColumns}
 use Rattle.row.proofs.Pass.{ordered, lower-twice}
 use Rattle.row.proofs.Columns.{within-in, column-in, column-out}
@@ -25,7 +27,8 @@ module _ (width t d : ℕ) (turn : t < width) (one : 1 ≤ d) (three : d ≤ 3) 
   back-row false = omega arith
   back-row true = omega arith
 
-  back-out : (upward : Bool) → t < d → (place upward width t + cellBack upward d % 7 < 3) ⊎ (width + 3 ≤ place upward width t + cellBack upward d % 7)
+  back-out : (upward : Bool) → t < d
+      → (place upward width t + cellBack upward d % 7 < 3) ⊎ (width + 3 ≤ place upward width t + cellBack upward d % 7)
   unfolding cellBack place
   back-out false h = inl (omega arith)
   back-out true h = inr (omega arith)
@@ -52,20 +55,26 @@ module _ (area : Area) (upward : Bool) (row : ℕ) (in-area : row < area .height
       let p : place upward w (t - d) < w = place-in upward w (t - d) (omega arith) in
       let q : x ≡ place upward w (t - d) + 3 = back-in w t d turn one three upward h in
       let z : x - 3 ≡ place upward w (t - d) = omega arith in
-      rw (le-leb _ _ h) (column-in w (row * w) (area .beyond) levels x (omega arith) (omega arith) ∙ ap (λ (c : ℕ). getD levels (row * w + c) 0) z))
+      rw (le-leb _ _ h) (column-in w (row * w) (area .beyond) levels x (omega arith) (omega arith)
+      ∙ ap (λ (c : ℕ). getD levels (row * w + c) 0) z))
       (ordered t d))
 
   -- the least level among the partners of the own row's cells, of the levels worked
   near : List ℕ → ℕ → ℕ
   near levels t =
-      nearest (cellNumber (area .cells) (cellBack upward 1)) (cellNumber (area .cells) (cellBack upward 2)) (cellNumber (area .cells) (cellBack upward 3))
-      (worked upward (area .width) (row * area .width) (area .beyond) levels t 1) (worked upward (area .width) (row * area .width) (area .beyond) levels t 2) (worked upward (area .width) (row * area .width) (area .beyond) levels t 3)
+      nearest (cellNumber (area .cells) (cellBack upward 1)) (cellNumber (area .cells) (cellBack upward 2))
+      (cellNumber (area .cells) (cellBack upward 3))
+      (worked upward (area .width) (row * area .width) (area .beyond) levels t 1)
+      (worked upward (area .width) (row * area .width) (area .beyond) levels t 2)
+      (worked upward (area .width) (row * area .width) (area .beyond) levels t 3)
 
   back-partner : (levels : List ℕ) (t d : ℕ) → t < area .width → 1 ≤ d → d ≤ 3 →
       partner area levels row (place upward (area .width) t) (cellBack upward d)
-      ≡ picked (cellNumber (area .cells) (cellBack upward d)) (worked upward (area .width) (row * area .width) (area .beyond) levels t d)
+      ≡ picked (cellNumber (area .cells) (cellBack upward d))
+      (worked upward (area .width) (row * area .width) (area .beyond) levels t d)
   unfolding partner picked
-  back-partner levels t d turn one three = ap (λ (x : ℕ). cond (eqb (cellNumber (area .cells) (cellBack upward d)) 0) none x) (back-level levels t d turn one three)
+  back-partner levels t d turn one three =
+      ap (λ (x : ℕ). cond (eqb (cellNumber (area .cells) (cellBack upward d)) 0) none x) (back-level levels t d turn one three)
 
 -- the partners met are those in other rows and the three of the own row, in either order
 capped : (l x y : ℕ) → l ≤ none → y ≡ min x none → min l y ≡ min l x
@@ -81,22 +90,29 @@ module _ (area : Area) (levels : List ℕ) (row col : ℕ) where
   met : (upward : Bool) →
       least area levels row col (firstMet upward) 24
       ≡ min (least area levels row col (firstOther upward) 21)
-      (min (partner area levels row col (cellBack upward 1)) (min (partner area levels row col (cellBack upward 2)) (partner area levels row col (cellBack upward 3))))
+      (min (partner area levels row col (cellBack upward 1))
+      (min (partner area levels row col (cellBack upward 2)) (partner area levels row col (cellBack upward 3))))
   unfolding firstMet firstOther cellBack least
-  met false = least-split area levels row col 0 21 3 ∙ capped _ _ _ (least-small area levels row col 0 21) (down (partner area levels row col 21) (partner area levels row col 22) (partner area levels row col 23))
+  met false = least-split area levels row col 0 21 3
+      ∙ capped _ _ _ (least-small area levels row col 0 21)
+      (down (partner area levels row col 21) (partner area levels row col 22) (partner area levels row col 23))
   met true =
       least-split area levels row col 25 3 21
       ∙ min-comm (least area levels row col 25 3) (least area levels row col 28 21)
-      ∙ capped _ _ _ (least-small area levels row col 28 21) (up (partner area levels row col 25) (partner area levels row col 26) (partner area levels row col 27))
+      ∙ capped _ _ _ (least-small area levels row col 28 21)
+      (up (partner area levels row col 25) (partner area levels row col 26) (partner area levels row col 27))
 
 -- after t turns of the rule point by point and of the own row alone
 record Ahead (area : Area) (upward : Bool) (row t : ℕ) (points own : List ℕ) : Type 0 where
   size : length own ≡ length points
   room : row * area .width + area .width ≤ length points
-  done : (s : ℕ) → s < t → s < area .width → getD own (row * area .width + place upward (area .width) s) 0 ≡ getD points (row * area .width + place upward (area .width) s) 0
+  done : (s : ℕ) → s < t → s < area .width
+      → getD own (row * area .width + place upward (area .width) s) 0
+      ≡ getD points (row * area .width + place upward (area .width) s) 0
   left : (s : ℕ) → t ≤ s → s < area .width →
       getD own (row * area .width + place upward (area .width) s) 0
-      ≡ min (getD points (row * area .width + place upward (area .width) s) 0) (more (least area points row (place upward (area .width) s) (firstOther upward) 21))
+      ≡ min (getD points (row * area .width + place upward (area .width) s) 0)
+      (more (least area points row (place upward (area .width) s) (firstOther upward) 21))
   earlier : (i : ℕ) → i < row * area .width → getD own i 0 ≡ getD points i 0
   later : (i : ℕ) → row * area .width + area .width ≤ i → getD own i 0 ≡ getD points i 0
 
@@ -121,7 +137,8 @@ module _ (area : Area) (upward : Bool) (row : ℕ) (in-area : row < area .height
   -- both give the column of turn t the same level
   module _ (t : ℕ) (points own : List ℕ) (turn : t < area .width) (A : Ahead area upward row t points own) where
     worked-same : (d : ℕ) → 1 ≤ d →
-        worked upward (area .width) (row * area .width) (area .beyond) own t d ≡ worked upward (area .width) (row * area .width) (area .beyond) points t d
+        worked upward (area .width) (row * area .width) (area .beyond) own t d
+        ≡ worked upward (area .width) (row * area .width) (area .beyond) points t d
     unfolding worked
     worked-same d back =
         ⊎-elim
@@ -143,24 +160,30 @@ module _ (area : Area) (upward : Bool) (row : ℕ) (in-area : row < area .height
         )
         (met area points row (place upward (area .width) t) upward)
 
-    level-same : min (getD own (row * area .width + place upward (area .width) t) 0) (more (near area upward row in-area own t)) ≡ lowered area upward points row (place upward (area .width) t)
+    level-same : min (getD own (row * area .width + place upward (area .width) t) 0) (more (near area upward row in-area own t))
+        ≡ lowered area upward points row (place upward (area .width) t)
     unfolding lowered
     level-same =
         rw (A .left t (omega arith) turn, least-met)
-        (lower-twice (getD points (row * area .width + place upward (area .width) t) 0) (least area points row (place upward (area .width) t) (firstOther upward) 21) (near area upward row in-area own t))
+        (lower-twice (getD points (row * area .width + place upward (area .width) t) 0)
+        (least area points row (place upward (area .width) t) (firstOther upward) 21) (near area upward row in-area own t))
 
     -- and go on alike
     ahead-same : (level : ℕ) →
-        Ahead area upward row (suc t) (set points (row * area .width + place upward (area .width) t) level) (set own (row * area .width + place upward (area .width) t) level)
+        Ahead area upward row (suc t) (set points (row * area .width + place upward (area .width) t) level)
+        (set own (row * area .width + place upward (area .width) t) level)
     ahead-same level =
         let w : ℕ = area .width in
         let at : ℕ = row * w + place upward w t in
         let p : place upward w t < w = place-in upward w t turn in
         let room : row * w + w ≤ length points = A .room in
         let long : length own ≡ length points = A .size in
-        let own-else : (i : ℕ) → (i ≡ at → ⊥) → getD (set own at level) i 0 ≡ getD own i 0 = λ i h. getD-set-other own at i level 0 h in
-        let points-else : (i : ℕ) → (i ≡ at → ⊥) → getD (set points at level) i 0 ≡ getD points i 0 = λ i h. getD-set-other points at i level 0 h in
-        let apart : (s : ℕ) → s < w → (s ≡ t → ⊥) → row * w + place upward w s ≡ at → ⊥ = λ s k h q. place-apart upward w s t k turn h (omega arith) in
+        let own-else : (i : ℕ) → (i ≡ at → ⊥)
+        → getD (set own at level) i 0 ≡ getD own i 0 = λ i h. getD-set-other own at i level 0 h in
+        let points-else : (i : ℕ) → (i ≡ at → ⊥)
+        → getD (set points at level) i 0 ≡ getD points i 0 = λ i h. getD-set-other points at i level 0 h in
+        let apart : (s : ℕ) → s < w → (s ≡ t → ⊥) → row * w + place upward w s ≡ at
+        → ⊥ = λ s k h q. place-apart upward w s t k turn h (omega arith) in
         record {
           size = length-set own at level ∙ A .size ∙ sym (length-set points at level);
           room = rw length-set room;
@@ -176,7 +199,8 @@ module _ (area : Area) (upward : Bool) (row : ℕ) (in-area : row < area .height
               let no : row * w + place upward w s ≡ at → ⊥ = apart s k (λ q. omega arith) in
               rw (
                 points-else (row * w + place upward w s) no,
-                least-same area row points (set points at level) (λ i m. points-else i (λ q. omega arith)) (λ i m. points-else i (λ q. omega arith)) (place upward w s) (firstOther upward) 21 (other upward),
+                least-same area row points (set points at level) (λ i m. points-else i (λ q. omega arith))
+                    (λ i m. points-else i (λ q. omega arith)) (place upward w s) (firstOther upward) 21 (other upward),
               )
               (own-else _ no ∙ A .left s (omega arith) k);
           earlier = λ i h. own-else i (λ q. omega arith) ∙ A .earlier i h ∙ sym (points-else i (λ q. omega arith));
@@ -185,7 +209,8 @@ module _ (area : Area) (upward : Bool) (row : ℕ) (in-area : row < area .height
 
     -- a turn of both
     ahead-turn : Ahead area upward row (suc t) (pointRule area upward row points (place upward (area .width) t))
-        (ownPoint upward (area .width) (row * area .width) (cellNumber (area .cells) (cellBack upward 1)) (cellNumber (area .cells) (cellBack upward 2)) (cellNumber (area .cells) (cellBack upward 3)) (area .beyond) own t)
+        (ownPoint upward (area .width) (row * area .width) (cellNumber (area .cells) (cellBack upward 1))
+        (cellNumber (area .cells) (cellBack upward 2)) (cellNumber (area .cells) (cellBack upward 3)) (area .beyond) own t)
     unfolding pointRule ownPoint near
     ahead-turn = rw level-same (ahead-same (lowered area upward points row (place upward (area .width) t)))
 
@@ -209,13 +234,16 @@ module _ (area : Area) (upward : Bool) (row : ℕ) (in-area : row < area .height
 
   pub whole : (levels after : List ℕ) → row * area .width + area .width ≤ length levels →
       Pass (row * area .width) (area .width) (λ col. least area levels row col (firstOther upward) 21) levels after →
-      ownColumns upward (area .width) (row * area .width) (cellNumber (area .cells) (cellBack upward 1)) (cellNumber (area .cells) (cellBack upward 2)) (cellNumber (area .cells) (cellBack upward 3)) (area .beyond) (area .width) after
+      ownColumns upward (area .width) (row * area .width) (cellNumber (area .cells) (cellBack upward 1))
+      (cellNumber (area .cells) (cellBack upward 2)) (cellNumber (area .cells) (cellBack upward 3)) (area .beyond)
+      (area .width) after
       ≡ rowRule area upward row levels
   unfolding rowRule columns ownColumns
   whole levels after room P = ahead-end _ _ (ahead (area .width) (omega arith))
     where
       ahead : (t : ℕ) → t ≤ area .width →
           Ahead area upward row t (columns area upward row t levels)
-          (ownColumns upward (area .width) (row * area .width) (cellNumber (area .cells) (cellBack upward 1)) (cellNumber (area .cells) (cellBack upward 2)) (cellNumber (area .cells) (cellBack upward 3)) (area .beyond) t after)
+          (ownColumns upward (area .width) (row * area .width) (cellNumber (area .cells) (cellBack upward 1))
+          (cellNumber (area .cells) (cellBack upward 2)) (cellNumber (area .cells) (cellBack upward 3)) (area .beyond) t after)
       ahead zero h = ahead-start levels after room P
       ahead (suc t) h = ahead-turn t _ _ (omega arith) (ahead t (omega arith))

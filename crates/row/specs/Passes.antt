@@ -55,7 +55,8 @@ unfoldable pub ownPoint : Bool → ℕ → ℕ → ℕ → ℕ → ℕ → ℕ �
 ownPoint upward width start one two three beyond levels t =
     set levels (start + place upward width t)
     (min (getD levels (start + place upward width t) 0)
-    (more (nearest one two three (worked upward width start beyond levels t 1) (worked upward width start beyond levels t 2) (worked upward width start beyond levels t 3))))
+    (more (nearest one two three (worked upward width start beyond levels t 1) (worked upward width start beyond levels t 2)
+    (worked upward width start beyond levels t 3))))
 
 -- the first t columns
 unfoldable pub ownColumns : Bool → ℕ → ℕ → ℕ → ℕ → ℕ → ℕ → ℕ → List ℕ → List ℕ

@@ -13,7 +13,8 @@ none = 65535
 abbrev pub more : ℕ → ℕ
 more level = min (level + 1) none
 
--- The area worked on: its sides, what a partner beyond it reads, and the seven rows of seven cells whose set cells lead from a point to its partners
+-- The area worked on: its sides, what a partner beyond it reads, and the seven rows of seven cells whose set cells lead from a
+-- point to its partners
 pub record Area : Type 0 where
   pub width : ℕ
   pub height : ℕ
@@ -48,7 +49,8 @@ firstMet true = 25
 
 -- the level that a point gets: the smaller of its own and one plus the least among the partners met
 unfoldable pub lowered : Area → Bool → List ℕ → ℕ → ℕ → ℕ
-lowered area upward levels row col = min (getD levels (row * area .width + col) 0) (more (least area levels row col (firstMet upward) 24))
+lowered area upward levels row col =
+    min (getD levels (row * area .width + col) 0) (more (least area levels row col (firstMet upward) 24))
 
 unfoldable pub pointRule : Area → Bool → ℕ → List ℕ → ℕ → List ℕ
 pointRule area upward row levels col = set levels (row * area .width + col) (lowered area upward levels row col)
@@ -61,7 +63,8 @@ place true n t = n - suc t
 -- the first t columns of a row
 unfoldable pub columns : Area → Bool → ℕ → ℕ → List ℕ → List ℕ
 columns area upward row zero levels = levels
-columns area upward row (suc t) levels = pointRule area upward row (columns area upward row t levels) (place upward (area .width) t)
+columns area upward row (suc t) levels =
+    pointRule area upward row (columns area upward row t levels) (place upward (area .width) t)
 
 -- the whole row
 unfoldable pub rowRule : Area → Bool → ℕ → List ℕ → List ℕ

@@ -65,8 +65,10 @@ fn over_edge(a: usize, b: usize, width: usize) -> usize
 
 // The row at `at`, by the partners in the row at `from` that a cell leads to, `across` columns on from 3 before.
 fn by_columns(part: &mut [u16], width: usize, at: usize, from: usize, across: usize, beyond: u16)
-    requires { ⌜ (at + width ≤ length (now part)) × ((from + width ≤ length (now part)) × ((from + width ≤ at) ⊎ (at + width ≤ from))) ⌝ }
-    ensures { λ _. ⌜ Pass at width (λ col. columnAt width from beyond (now (part .entry)) (col + across)) (now (part .entry)) (now (part .exit)) ⌝ }
+    requires { ⌜ (at + width ≤ length (now part)) ×
+        ((from + width ≤ length (now part)) × ((from + width ≤ at) ⊎ (at + width ≤ from))) ⌝ }
+    ensures { λ _. ⌜ Pass at width (λ col. columnAt width from beyond (now (part .entry)) (col + across)) (now (part .entry))
+        (now (part .exit)) ⌝ }
 {
     let left = over_edge(3, across, width);
     let right = over_edge(across, 3, width);
@@ -99,7 +101,8 @@ fn by_cell(
 )
     requires { ⌜ (length (now part) ≡ rows * width) × ((row < rows) × ((rows ≤ 4096) × ((k < 49) × ((k < 21) ⊎ (28 ≤ k))))) ⌝ }
     ensures { λ _. ⌜ Pass (row * width) width (λ col. least
-        (record { width = width; height = rows; beyond = beyond; cells = cells }) (now (part .entry)) row col k 1) (now (part .entry)) (now (part .exit)) ⌝ }
+        (record { width = width; height = rows; beyond = beyond; cells = cells }) (now (part .entry)) row col k 1)
+        (now (part .entry)) (now (part .exit)) ⌝ }
 {
     if cells[k / 7][k % 7] == 0 {
         return;
@@ -132,7 +135,8 @@ fn by_other_rows(
 )
     requires { ⌜ (length (now part) ≡ rows * width) × ((row < rows) × (rows ≤ 4096)) ⌝ }
     ensures { λ _. ⌜ Pass (row * width) width (λ col. least
-        (record { width = width; height = rows; beyond = beyond; cells = cells }) (now (part .entry)) row col (firstOther upward) 21) (now (part .entry)) (now (part .exit)) ⌝ }
+        (record { width = width; height = rows; beyond = beyond; cells = cells }) (now (part .entry)) row col
+        (firstOther upward) 21) (now (part .entry)) (now (part .exit)) ⌝ }
 {
     let first = first_other(upward);
     let mut n = 0;
@@ -255,7 +259,8 @@ pub fn row_rule(
     beyond: u16,
 )
     requires { ⌜ (length (now part) ≡ rows * width) × ((row < rows) × ((width ≤ 4096) × (rows ≤ 4096))) ⌝ }
-    ensures { λ _. ⌜ now (part .exit) ≡ rowRule (record { width = width; height = rows; beyond = beyond; cells = cells }) upward row (now (part .entry)) ⌝ }
+    ensures { λ _. ⌜ now (part .exit)
+        ≡ rowRule (record { width = width; height = rows; beyond = beyond; cells = cells }) upward row (now (part .entry)) ⌝ }
 {
     by_other_rows(part, width, rows, row, upward, cells, beyond);
     let one = cell_back(cells, upward, 1);

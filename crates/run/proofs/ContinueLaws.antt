@@ -9,7 +9,7 @@ use lib.Dec.{eqb, ltb}
 use lib.ListN.{length}
 use borrow.Author.Tests.{lt-ltb, le-ltb, eqb-true, ltb-false}
 use Rattle.basics.specs.Refusals.{first}
-use Rattle.basics.proofs.RefusalLaws.{refuses, accepts, answers-unique}
+use Rattle.basics.proofs.RefusalLaws.{refuses, accepts, rule-unique}
 use Rattle.scan.specs.Scan.{area, Lent, scanRows}
 use Rattle.run.specs.declared.Record.{Record}
 use Rattle.run.specs.declared.continuing.Continued.{Continued}
@@ -33,23 +33,29 @@ module _ (r : Record) (levels : List ℕ) (allowance : ℕ) where
       continue-accept l = rw (a, b, le-ltb 8192 allowance l)
 
   -- what an accepted continue may rely on
-  pub continue-accepted : first (continueRefusals r levels allowance) ≡ 0 → (recordBad r ≡ false) × (length levels ≡ areaHeight r * areaWidth r) × (allowance ≤ 8192)
+  pub continue-accepted : first (continueRefusals r levels allowance) ≡ 0
+      → (recordBad r ≡ false) × (length levels ≡ areaHeight r * areaWidth r) × (allowance ≤ 8192)
   continue-accepted e = go (recordBad r) (eqb (length levels) (areaHeight r * areaWidth r)) (ltb 8192 allowance) refl refl refl e
     where
-      go : (a b c : Bool) → recordBad r ≡ a → eqb (length levels) (areaHeight r * areaWidth r) ≡ b → ltb 8192 allowance ≡ c → first ((1, a) ∷ (10, not b) ∷ (12, c) ∷ []) ≡ 0
+      go : (a b c : Bool) → recordBad r ≡ a → eqb (length levels) (areaHeight r * areaWidth r) ≡ b → ltb 8192 allowance ≡ c
+          → first ((1, a) ∷ (10, not b) ∷ (12, c) ∷ []) ≡ 0
           → (recordBad r ≡ false) × (length levels ≡ areaHeight r * areaWidth r) × (allowance ≤ 8192)
       go false true false p q s e = (p, eqb-true (length levels) (areaHeight r * areaWidth r) q, ltb-false 8192 allowance s)
       go false true true p q s e = absurd (omega arith)
       go false false c p q s e = absurd (omega arith)
       go true b c p q s e = absurd (omega arith)
 
-  pub continue-refuses : (number : ℕ) (answer : Continued) → answer ≡ record { refusal = number; run = noRecord; done = false } → number ≢ 0 → number ≡ first (continueRefusals r levels allowance)
+  pub continue-refuses : (number : ℕ) (answer : Continued) → answer ≡ record { refusal = number; run = noRecord; done = false }
+      → number ≢ 0 → number ≡ first (continueRefusals r levels allowance)
       → Continues r levels allowance (answer .refusal) (answer .run, answer .done, levels)
   continue-refuses number answer q n e = rw q (refuses number n e)
 
-  pub continue-accepts : first (continueRefusals r levels allowance) ≡ 0 → (next : Record) (after : List ℕ) (count all : ℕ) → count ≡ worked r allowance → all ≡ due r → next ≡ withRows r (r .rows + count)
-      → after ≡ scanRows (areaOf r) (r .rows) count levels → Continues r levels allowance 0 (next, eqb (r .rows + count) all, after)
-  continue-accepts z next after count all p q s t = accepts (next, eqb (r .rows + count) all, after) z (λ i. (record-path i, done-path i, levels-path i))
+  pub continue-accepts : first (continueRefusals r levels allowance) ≡ 0 → (next : Record) (after : List ℕ) (count all : ℕ)
+      → count ≡ worked r allowance → all ≡ due r → next ≡ withRows r (r .rows + count)
+      → after ≡ scanRows (areaOf r) (r .rows) count levels
+      → Continues r levels allowance 0 (next, eqb (r .rows + count) all, after)
+  continue-accepts z next after count all p q s t =
+      accepts (next, eqb (r .rows + count) all, after) z (λ i. (record-path i, done-path i, levels-path i))
     where
       record-path : next ≡ withRows r (r .rows + worked r allowance)
       record-path = s ∙ ap (λ n. withRows r (r .rows + n)) p
@@ -60,11 +66,13 @@ module _ (r : Record) (levels : List ℕ) (allowance : ℕ) where
       levels-path : after ≡ scanRows (areaOf r) (r .rows) (worked r allowance) levels
       levels-path = t ∙ ap (λ n. scanRows (areaOf r) (r .rows) n levels) p
 
-  pub continue-unique : (m n : ℕ) (x y : Record × Bool × List ℕ) → Continues r levels allowance m x → Continues r levels allowance n y → (m ≡ n) × (x ≡ y)
-  continue-unique = answers-unique (λ x y p q. p ∙ sym q)
+  pub continue-unique : (m n : ℕ) (x y : Record × Bool × List ℕ) → Continues r levels allowance m x
+      → Continues r levels allowance n y → (m ≡ n) × (x ≡ y)
+  continue-unique = rule-unique
 
 -- what the scan of rows asks and gives, with the area's values in the code's locals
-module _ (r : Record) (s : Sound r) (levels : List ℕ) (size : length levels ≡ areaHeight r * areaWidth r) (width height : ℕ) (w : width ≡ areaWidth r) (h : height ≡ areaHeight r) where
+module _ (r : Record) (s : Sound r) (levels : List ℕ) (size : length levels ≡ areaHeight r * areaWidth r) (width height : ℕ)
+    (w : width ≡ areaWidth r) (h : height ≡ areaHeight r) where
   pub work-lent : Lent width height levels
   work-lent =
       let a = s .wide in
@@ -73,5 +81,7 @@ module _ (r : Record) (s : Sound r) (levels : List ℕ) (size : length levels �
       let d = s .area-high in
       rw (w, h) (record { wide = (omega arith, c); high = (omega arith, d); size = size })
 
-  pub work-rows : (beyond : ℕ) (cells : List (List ℕ)) → beyond ≡ beyondOf r → cells ≡ cellsOf r → (done count : ℕ) (after : List ℕ) → after ≡ scanRows (area width height beyond cells) done count levels → after ≡ scanRows (areaOf r) done count levels
+  pub work-rows : (beyond : ℕ) (cells : List (List ℕ)) → beyond ≡ beyondOf r → cells ≡ cellsOf r
+      → (done count : ℕ) (after : List ℕ) → after ≡ scanRows (area width height beyond cells) done count levels
+      → after ≡ scanRows (areaOf r) done count levels
   work-rows beyond cells b c done count after e = e ∙ rw (w, h, b, c)

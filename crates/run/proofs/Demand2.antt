@@ -1,4 +1,5 @@
--- Demand 2 for erosion and dilation: the start levels are what the scan theorem asks, so the finished levels are the grid's; collecting and thresholding read them off.
+-- Demand 2 for erosion and dilation: the start levels are what the scan theorem asks, so the finished levels are the grid's;
+-- collecting and thresholding read them off.
 -- An erosion is worked with a margin that is 0 by its cap, so both kinds go by the same laws of the canvas.
 use Prim.Native.Nat.{ℕ, suc, _+_, _-_, _*_, _%_, _≤_, _<_}
 use native.Mathlib.Nat.{zero-mul}
@@ -45,24 +46,30 @@ use Rattle.run.proofs.Started.{is-start, length-start}
 use Rattle.run.proofs.StartLevels.{level-on, level-off, place-down}
 
 -- the record's cells mean the element
-pub same-set : (side : ℕ) (bytes : List ℕ) → Accepted side bytes → elementSet 7 (flat (centred side bytes)) ≈ elementSet side bytes
+pub same-set : (side : ℕ) (bytes : List ℕ) → Accepted side bytes
+    → elementSet 7 (flat (centred side bytes)) ≈ elementSet side bytes
 same-set side bytes given =
     let f = flat-means (centred side bytes) in
     let c = centred-means side bytes (given .side-is) in
     ((λ x h. c .0 x (f .0 x h)), (λ x h. f .1 x (c .1 x h)))
 
 -- read off the collected levels, and off the thresholded sheet
-collected-at : (r : Record) (levels : List ℕ) (row col : ℕ) → row < r .height → col < r .width → getD (collected r levels) (row * r .width + col) 0 ≡ collectedLevel r (frameLevel r levels row col)
+collected-at : (r : Record) (levels : List ℕ) (row col : ℕ) → row < r .height → col < r .width
+    → getD (collected r levels) (row * r .width + col) 0 ≡ collectedLevel r (frameLevel r levels row col)
 unfolding collected
-collected-at r levels row col a b = getD-raster (r .width) (r .height) (λ row col. collectedLevel r (frameLevel r levels row col)) row col 0 a b
+collected-at r levels row col a b =
+    getD-raster (r .width) (r .height) (λ row col. collectedLevel r (frameLevel r levels row col)) row col 0 a b
 
 small : (t : Bool) → cond t 1 0 ≤ 1
 small true = omega arith
 small false = omega arith
 
-thresholded-at : (r : Record) (levels : List ℕ) (n row col : ℕ) → row < r .height → col < r .width → pixel (r .width) (thresholded r levels n) row col ≡ cond (isHeldAt r n (frameLevel r levels row col)) 1 0
+thresholded-at : (r : Record) (levels : List ℕ) (n row col : ℕ) → row < r .height → col < r .width
+    → pixel (r .width) (thresholded r levels n) row col ≡ cond (isHeldAt r n (frameLevel r levels row col)) 1 0
 unfolding thresholded
-thresholded-at r levels n row col a b = pixel-packed (r .width) (r .height) (λ row col. cond (isHeldAt r n (frameLevel r levels row col)) 1 0) (λ i j c d. small (isHeldAt r n (frameLevel r levels i j))) row col a b
+thresholded-at r levels n row col a b =
+    pixel-packed (r .width) (r .height) (λ row col. cond (isHeldAt r n (frameLevel r levels row col)) 1 0)
+    (λ i j c d. small (isHeldAt r n (frameLevel r levels i j))) row col a b
 
 -- a pixel is 1 exactly where its test holds
 pixel-iff : {P : Type 0} (v : ℕ) (t : Bool) → v ≡ cond t 1 0 → (t ≡ true → P) → (P → t ≡ true) → (v ≡ 1) ↔ P
@@ -70,7 +77,8 @@ pixel-iff v true e f g = ((λ _. f refl), (λ _. e))
 pixel-iff v false e f g = ((λ q. absurd (omega arith)), (λ p. absurd (false≢true (g p))))
 
 -- erosion
-module _ (width height : ℕ) (sheet : List ℕ) (side : ℕ) (bytes : List ℕ) (given : Accepted side bytes) (s : Sound (startRecord 1 width height 0 side bytes)) where
+module _ (width height : ℕ) (sheet : List ℕ) (side : ℕ) (bytes : List ℕ) (given : Accepted side bytes)
+    (s : Sound (startRecord 1 width height 0 side bytes)) where
   abbrev A : PointSet
   A = foreground width height sheet
 
@@ -89,7 +97,8 @@ module _ (width height : ℕ) (sheet : List ℕ) (side : ℕ) (bytes : List ℕ)
   at-margin : (row col : ℕ) → onCanvas (margin r) row col ≡ at (pos row) (pos col)
   at-margin row col =
       let m = no-margin in
-      ap₂ at (place-down row (margin r) (omega arith) ∙ ap (λ (n : ℕ). pos n) (let e : row - margin r ≡ row = omega arith in e)) (place-down col (margin r) (omega arith) ∙ ap (λ (n : ℕ). pos n) (let e : col - margin r ≡ col = omega arith in e))
+      ap₂ at (place-down row (margin r) (omega arith) ∙ ap (λ (n : ℕ). pos n) (let e : row - margin r ≡ row = omega arith in e))
+      (place-down col (margin r) (omega arith) ∙ ap (λ (n : ℕ). pos n) (let e : col - margin r ≡ col = omega arith in e))
 
   pub erosion-start : ErosionStart (areaOf r) A K start
   erosion-start =
@@ -108,26 +117,34 @@ module _ (width height : ℕ) (sheet : List ℕ) (side : ℕ) (bytes : List ℕ)
         has-other = other .1;
         not-origin = other .2;
         decide = figure-decided width height (pixel width sheet);
-        inside = λ x i. let f = figure-in width height (pixel width sheet) x i in let a = f .2 in let b = f .3 in (f .0, f .1, omega arith, omega arith, f .4);
+        inside = λ x i. let f = figure-in width height (pixel width sheet) x i in let a = f .2 in let b = f .3 in
+            (f .0, f .1, omega arith, omega arith, f .4);
         size = length-start width height (margin r) sheet none 0;
         on = λ row col a b i. level-on width height (margin r) sheet row col none 0 a b (subst A (sym (at-margin row col)) i);
-        off = λ row col a b i. level-off width height (margin r) sheet row col none 0 a b (λ j. i (subst A (at-margin row col) j));
+        off = λ row col a b i. level-off width height (margin r) sheet row col none 0 a b
+            (λ j. i (subst A (at-margin row col) j));
       }
 
-  erosion-level : (row col : ℕ) → row < height → col < width → IsErosionLevel A K (at (pos row) (pos col)) (frameLevel r (finished r start) row col)
+  erosion-level : (row col : ℕ) → row < height → col < width
+      → IsErosionLevel A K (at (pos row) (pos col)) (frameLevel r (finished r start) row col)
   erosion-level row col a b =
       let m = no-margin in
-      subst (IsErosionLevel A K (at (pos row) (pos col))) (ap₂ (λ i j. getD (finished r start) (i * areaWidth r + j) 0) (let e : row ≡ row + margin r = omega arith in e) (let e : col ≡ col + margin r = omega arith in e))
+      subst (IsErosionLevel A K (at (pos row) (pos col)))
+      (ap₂ (λ i j. getD (finished r start) (i * areaWidth r + j) 0) (let e : row ≡ row + margin r = omega arith in e)
+      (let e : col ≡ col + margin r = omega arith in e))
       (erosion-at erosion-start row col (omega arith) (omega arith))
 
   erosion-levels : LevelsMean width height (IsErosionLevel A K) (collected r (finished r start))
-  erosion-levels row col a b = subst (IsErosionLevel A K (at (pos row) (pos col))) (sym (collected-at r (finished r start) row col a b)) (erosion-level row col a b)
+  erosion-levels row col a b =
+      subst (IsErosionLevel A K (at (pos row) (pos col))) (sym (collected-at r (finished r start) row col a b))
+      (erosion-level row col a b)
 
   erosion-sheets : (n : ℕ) → SheetMeans width height (eroded A K n) (thresholded r (finished r start) n)
   erosion-sheets n row col a b =
       let level = frameLevel r (finished r start) row col in
       let i = erosion-iff A K (at (pos row) (pos col)) (accepted-origin side bytes given) (erosion-level row col a b) n in
-      pixel-iff (pixel width (thresholded r (finished r start) n) row col) (ltb n level) (thresholded-at r (finished r start) n row col a b)
+      pixel-iff (pixel width (thresholded r (finished r start) n) row col) (ltb n level)
+      (thresholded-at r (finished r start) n row col a b)
       (λ t. i .1 (ltb-true n level t)) (λ h. lt-ltb n level (i .0 h))
 
 -- dilation
@@ -140,8 +157,12 @@ cap-iff : (R n level : ℕ) → n ≤ R → ((0 < cap R level) × (cap R level �
 unfolding cap
 cap-iff R n level l = go (leb level (suc R)) refl
   where
-    go : (t : Bool) → leb level (suc R) ≡ t → ((0 < cond t level 0) × (cond t level 0 ≤ suc n)) ↔ (leb 1 level && leb level (suc n) ≡ true)
-    go true e = ((λ h. rw (le-leb 1 level (h .0), le-leb level (suc n) (h .1))), (λ h. both (leb 1 level) (leb level (suc n)) refl refl h))
+    go : (t : Bool) → leb level (suc R) ≡ t
+        → ((0 < cond t level 0) × (cond t level 0 ≤ suc n)) ↔ (leb 1 level && leb level (suc n) ≡ true)
+    go true e = (
+      (λ h. rw (le-leb 1 level (h .0), le-leb level (suc n) (h .1))),
+      (λ h. both (leb 1 level) (leb level (suc n)) refl refl h),
+    )
       where
         both : (a b : Bool) → leb 1 level ≡ a → leb level (suc n) ≡ b → a && b ≡ true → (0 < level) × (level ≤ suc n)
         both true true p q h = (leb-true 1 level p, leb-true level (suc n) q)
@@ -156,7 +177,8 @@ cap-iff R n level l = go (leb level (suc R)) refl
             drop-last true z = z
             drop-last false z = refl
 
-module _ (width height : ℕ) (sheet : List ℕ) (side : ℕ) (bytes : List ℕ) (R : ℕ) (given : Accepted side bytes) (s : Sound (startRecord 2 width height R side bytes)) where
+module _ (width height : ℕ) (sheet : List ℕ) (side : ℕ) (bytes : List ℕ) (R : ℕ) (given : Accepted side bytes)
+    (s : Sound (startRecord 2 width height R side bytes)) where
   abbrev A₂ : PointSet
   A₂ = foreground width height sheet
 
@@ -192,41 +214,50 @@ module _ (width height : ℕ) (sheet : List ℕ) (side : ℕ) (bytes : List ℕ)
         off = λ row col a b i. level-off width height (margin r₂) sheet row col 1 none a b i;
       }
 
-  dilation-level : (row col : ℕ) → row < height → col < width → IsDilationLevel R A₂ K₂ (at (pos row) (pos col)) (cap R (frameLevel r₂ (finished r₂ start₂) row col))
+  dilation-level : (row col : ℕ) → row < height → col < width
+      → IsDilationLevel R A₂ K₂ (at (pos row) (pos col)) (cap R (frameLevel r₂ (finished r₂ start₂) row col))
   dilation-level row col a b = dilation-frame dilation-start row col a b
 
   dilation-levels : LevelsMean width height (IsDilationLevel R A₂ K₂) (collected r₂ (finished r₂ start₂))
   dilation-levels row col a b =
-      subst (IsDilationLevel R A₂ K₂ (at (pos row) (pos col))) (sym (collected-at r₂ (finished r₂ start₂) row col a b ∙ cap-is R (frameLevel r₂ (finished r₂ start₂) row col))) (dilation-level row col a b)
+      subst (IsDilationLevel R A₂ K₂ (at (pos row) (pos col)))
+      (sym (collected-at r₂ (finished r₂ start₂) row col a b ∙ cap-is R (frameLevel r₂ (finished r₂ start₂) row col)))
+      (dilation-level row col a b)
 
   dilation-sheets : (n : ℕ) → n ≤ R → SheetMeans width height (dilated A₂ K₂ n) (thresholded r₂ (finished r₂ start₂) n)
   dilation-sheets n l row col a b =
       let level = frameLevel r₂ (finished r₂ start₂) row col in
       let i = dilation-iff A₂ K₂ (at (pos row) (pos col)) (accepted-origin side bytes given) (dilation-level row col a b) n l in
       let c = cap-iff R n level l in
-      pixel-iff (pixel width (thresholded r₂ (finished r₂ start₂) n) row col) (leb 1 level && leb level (suc n)) (thresholded-at r₂ (finished r₂ start₂) n row col a b)
+      pixel-iff (pixel width (thresholded r₂ (finished r₂ start₂) n) row col) (leb 1 level && leb level (suc n))
+      (thresholded-at r₂ (finished r₂ start₂) n row col a b)
       (λ t. i .1 (c .1 t)) (λ h. c .0 (i .0 h))
 
 -- THE THEOREMS
 pub erosion-picture : ErosionPicture
 erosion-picture width height sheet side bytes lent r levels a =
-    let given = judged width height sheet side bytes (erosion-taken width height sheet side bytes lent (sym (a .refusal)) .0) .element in
+    let given = judged width height sheet side bytes
+    (erosion-taken width height sheet side bytes lent (sym (a .refusal)) .0) .element in
     let q = a .accepted refl in
     let k = sound r (is-start (erosion width height sheet side bytes lent a) .taken) in
     let e : startRecord 1 width height 0 side bytes ≡ r = sym (ap (λ t. t .0) q) in
-    let f : startLevels width height (marginOf 0 side) sheet none 0 ≡ levels = ap (λ m. startLevels width height m sheet none 0) (zero-mul (reach side)) ∙ sym (ap (λ t. t .1) q) in
+    let f : startLevels width height (marginOf 0 side) sheet none 0 ≡ levels =
+    ap (λ m. startLevels width height m sheet none 0) (zero-mul (reach side)) ∙ sym (ap (λ t. t .1) q) in
     let s = subst Sound (sym e) k in
     subst (λ x. Means x levels) e (subst (λ l. Means (startRecord 1 width height 0 side bytes) l) f
     (erosion-levels width height sheet side bytes given s, erosion-sheets width height sheet side bytes given s))
   where
     Means : Record → List ℕ → Type 0
     Means x l =
-        LevelsMean width height (IsErosionLevel (foreground width height sheet) (elementSet side bytes)) (collected x (finished x l)) ×
-        ((n : ℕ) → SheetMeans width height (eroded (foreground width height sheet) (elementSet side bytes) n) (thresholded x (finished x l) n))
+        LevelsMean width height (IsErosionLevel (foreground width height sheet) (elementSet side bytes))
+        (collected x (finished x l)) ×
+        ((n : ℕ) → SheetMeans width height (eroded (foreground width height sheet) (elementSet side bytes) n)
+        (thresholded x (finished x l) n))
 
 pub dilation-picture : DilationPicture
 dilation-picture width height sheet side bytes R lent r levels a =
-    let given = judged width height sheet side bytes (dilation-taken width height sheet side bytes R lent (sym (a .refusal)) .0) .element in
+    let given = judged width height sheet side bytes
+    (dilation-taken width height sheet side bytes R lent (sym (a .refusal)) .0) .element in
     let q = a .accepted refl in
     let k = sound r (is-start (dilation width height sheet side bytes R lent a) .taken) in
     let e : startRecord 2 width height R side bytes ≡ r = sym (ap (λ t. t .0) q) in
@@ -237,5 +268,7 @@ dilation-picture width height sheet side bytes R lent r levels a =
   where
     Means : Record → List ℕ → Type 0
     Means x l =
-        LevelsMean width height (IsDilationLevel R (foreground width height sheet) (elementSet side bytes)) (collected x (finished x l)) ×
-        ((n : ℕ) → n ≤ R → SheetMeans width height (dilated (foreground width height sheet) (elementSet side bytes) n) (thresholded x (finished x l) n))
+        LevelsMean width height (IsDilationLevel R (foreground width height sheet) (elementSet side bytes))
+        (collected x (finished x l)) ×
+        ((n : ℕ) → n ≤ R → SheetMeans width height (dilated (foreground width height sheet) (elementSet side bytes) n)
+        (thresholded x (finished x l) n))

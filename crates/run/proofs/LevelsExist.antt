@@ -10,15 +10,18 @@ use Rattle.element.specs.Elements.{byteAt, elementSet, elementRefusals}
 use Rattle.element.proofs.Accepted.{accepted, accepted-origin, accepted-other}
 use Rattle.sheet.specs.Sheets.{pixel, foreground}
 
-module _ (width height : ℕ) (sheet : List ℕ) (side : ℕ) (bytes : List ℕ) (e : first (elementRefusals side bytes) ≡ 0) (x : Point) where
+module _ (width height : ℕ) (sheet : List ℕ) (side : ℕ) (bytes : List ℕ) (e : first (elementRefusals side bytes) ≡ 0)
+    (x : Point) where
   -- a largest level, at most the larger side of the frame
-  pub erosion-exists : (m : ℕ) × IsErosionLevel (foreground width height sheet) (elementSet side bytes) x m × (m ≤ max width height)
+  pub erosion-exists : (m : ℕ) × IsErosionLevel (foreground width height sheet) (elementSet side bytes) x m ×
+      (m ≤ max width height)
   erosion-exists =
       let given = accepted side bytes e in
       let (b, h, n) = accepted-other side bytes given in
       erosion-level-exists width height (pixel width sheet) side (byteAt side bytes) (accepted-origin side bytes given) b h n x
 
-  pub opening-exists : (m : ℕ) × IsOpeningLevel (foreground width height sheet) (elementSet side bytes) x m × (m ≤ max width height)
+  pub opening-exists : (m : ℕ) × IsOpeningLevel (foreground width height sheet) (elementSet side bytes) x m ×
+      (m ≤ max width height)
   opening-exists =
       let given = accepted side bytes e in
       let (b, h, n) = accepted-other side bytes given in

@@ -1,4 +1,5 @@
--- A packed row, column by column: one column more adds its pixel, by the weight of its bit, to its own byte, and leaves the others.
+-- A packed row, column by column: one column more adds its pixel, by the weight of its bit, to its own byte, and leaves the
+-- others.
 -- A packed byte is a sum of eight bits by their weights; the laws on such sums are omega's.
 use Prim.Native.Nat.{ℕ, zero, suc, _+_, _*_, _/_, _%_, _≤_, _<_}
 use native.Mathlib.Decide.{decLt}
@@ -25,7 +26,17 @@ sum f = 128 * f 0 + 64 * f 1 + 32 * f 2 + 16 * f 3 + 8 * f 4 + 4 * f 5 + 2 * f 6
 module _ (f g : ℕ → ℕ) where
   sum-same : ((i : ℕ) → i < 8 → f i ≡ g i) → sum f ≡ sum g
   unfolding sum
-  sum-same h = omega (arith, h 0 (omega arith), h 1 (omega arith), h 2 (omega arith), h 3 (omega arith), h 4 (omega arith), h 5 (omega arith), h 6 (omega arith), h 7 (omega arith))
+  sum-same h = omega (
+    arith,
+    h 0 (omega arith),
+    h 1 (omega arith),
+    h 2 (omega arith),
+    h 3 (omega arith),
+    h 4 (omega arith),
+    h 5 (omega arith),
+    h 6 (omega arith),
+    h 7 (omega arith),
+  )
 
   -- where one bit grows
   sum-more : (v j : ℕ) → j < 8 → ((i : ℕ) → T (not (eqb i j)) → f i ≡ g i) → f j ≡ g j + v → sum f ≡ sum g + weight j * v
@@ -36,8 +47,10 @@ module _ (f g : ℕ → ℕ) where
   sum-more v (suc (suc (suc zero))) l h e = omega (arith, h 0 tt, h 1 tt, h 2 tt, h 4 tt, h 5 tt, h 6 tt, h 7 tt)
   sum-more v (suc (suc (suc (suc zero)))) l h e = omega (arith, h 0 tt, h 1 tt, h 2 tt, h 3 tt, h 5 tt, h 6 tt, h 7 tt)
   sum-more v (suc (suc (suc (suc (suc zero))))) l h e = omega (arith, h 0 tt, h 1 tt, h 2 tt, h 3 tt, h 4 tt, h 6 tt, h 7 tt)
-  sum-more v (suc (suc (suc (suc (suc (suc zero)))))) l h e = omega (arith, h 0 tt, h 1 tt, h 2 tt, h 3 tt, h 4 tt, h 5 tt, h 7 tt)
-  sum-more v (suc (suc (suc (suc (suc (suc (suc zero))))))) l h e = omega (arith, h 0 tt, h 1 tt, h 2 tt, h 3 tt, h 4 tt, h 5 tt, h 6 tt)
+  sum-more v (suc (suc (suc (suc (suc (suc zero)))))) l h e =
+      omega (arith, h 0 tt, h 1 tt, h 2 tt, h 3 tt, h 4 tt, h 5 tt, h 7 tt)
+  sum-more v (suc (suc (suc (suc (suc (suc (suc zero))))))) l h e =
+      omega (arith, h 0 tt, h 1 tt, h 2 tt, h 3 tt, h 4 tt, h 5 tt, h 6 tt)
   sum-more v (suc (suc (suc (suc (suc (suc (suc (suc j)))))))) l h e = absurd (omega arith)
 
 -- eight bits are less than 256
@@ -81,7 +94,9 @@ module _ (pixels : ℕ → ℕ) where
   packed-none k = sym (byte-sum 0 k ∙ sum-same (bitIn 0 k) (λ _. 0) (λ i l. bit-out 0 k i (omega arith)))
 
   packed-other : (col k : ℕ) → k ≢ col / 8 → packedByte col pixels k ≡ packedByte (col + 1) pixels k
-  packed-other col k n = byte-sum col k ∙ sym (sum-same (bitIn (col + 1) k) (bitIn col k) (λ i l. bit-other col k i (λ e. n (omega arith)))) ∙ sym (byte-sum (col + 1) k)
+  packed-other col k n = byte-sum col k
+      ∙ sym (sum-same (bitIn (col + 1) k) (bitIn col k) (λ i l. bit-other col k i (λ e. n (omega arith))))
+      ∙ sym (byte-sum (col + 1) k)
 
   packed-own : (col : ℕ) → packedByte (col + 1) pixels (col / 8) ≡ packedByte col pixels (col / 8) + weight (col % 8) * pixels col
   packed-own col =
@@ -111,15 +126,21 @@ module _ {at n : ℕ} (width : ℕ) {buffer cleared : List ℕ} (P : Patch at n 
   pub packing-start : {pixels : ℕ → ℕ} → at + rowBytes width ≤ length buffer → Packing at width pixels 0 cleared cleared
   packing-start {pixels} room =
       let long = P .size in
-      record { below = omega arith; room = omega arith; bytes = patch-keep (patch-all P (rowBytes width) e) (packedByte 0 pixels) (λ i _. packed-none pixels i) }
+      record {
+        below = omega arith;
+        room = omega arith;
+        bytes = patch-keep (patch-all P (rowBytes width) e) (packedByte 0 pixels) (λ i _. packed-none pixels i);
+      }
 
-  pub packing-end : {pixels : ℕ → ℕ} {col : ℕ} {after : List ℕ} → Packing at width pixels col cleared after → width ≤ col → Patch at (rowBytes width) (packedByte width pixels) buffer after
+  pub packing-end : {pixels : ℕ → ℕ} {col : ℕ} {after : List ℕ} → Packing at width pixels col cleared after → width ≤ col
+      → Patch at (rowBytes width) (packedByte width pixels) buffer after
   packing-end {pixels} {col} Q l =
       let b = Q .below in
       let q : col ≡ width = omega arith in
       patch-over (patch-all P (rowBytes width) e) (rw q at (Q .bytes))
 
-module _ {at width : ℕ} {pixels : ℕ → ℕ} {col : ℕ} {cleared after : List ℕ} (P : Packing at width pixels col cleared after) (l : col < width) where
+module _ {at width : ℕ} {pixels : ℕ → ℕ} {col : ℕ} {cleared after : List ℕ} (P : Packing at width pixels col cleared after)
+    (l : col < width) where
   pub packing-place : at + col / 8 < length after
   packing-place = let long = P .bytes .size in let room = P .room in omega arith
 
@@ -134,5 +155,6 @@ module _ {at width : ℕ} {pixels : ℕ → ℕ} {col : ℕ} {cleared after : Li
     packing-turn = record {
       below = omega arith;
       room = P .room;
-      bytes = patch-store (P .bytes) (packedByte (col + 1) pixels) (col / 8) (getD after (at + col / 8) 0 + more) (P .room) (omega arith) value (λ i n. packed-other pixels col i n);
+      bytes = patch-store (P .bytes) (packedByte (col + 1) pixels) (col / 8) (getD after (at + col / 8) 0 + more) (P .room)
+          (omega arith) value (λ i n. packed-other pixels col i n);
     }

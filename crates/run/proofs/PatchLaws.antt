@@ -1,4 +1,5 @@
--- The laws of a buffer that is filled by stretches: a stretch grows by one store, two that follow one another join, and rows make a raster.
+-- The laws of a buffer that is filled by stretches: a stretch grows by one store, two that follow one another join, and rows make
+-- a raster.
 -- Each is shown entry by entry.
 use Prim.Native.Nat.{ℕ, _+_, _-_, _*_, _/_, _%_, _≤_, _<_}
 use native.Mathlib.Nat.{zero-add, zero-mul, add-mul, one-mul, suc-mul, mul-le-mul, mul-le-mul-right}
@@ -28,7 +29,8 @@ module _ {at n : ℕ} {f : ℕ → ℕ} {buffer after : List ℕ} (P : Patch at 
   pub patch-turn : (v : ℕ) → at + n < length buffer → v ≡ f n → Patch at (n + 1) f buffer (set after (at + n) v)
   patch-turn v room is =
       let long = P .size in
-      let other : (k : ℕ) → (k ≡ at + n → ⊥) → getD (set after (at + n) v) k 0 ≡ getD after k 0 = λ k h. getD-set-other after (at + n) k v 0 h in
+      let other : (k : ℕ) → (k ≡ at + n → ⊥)
+      → getD (set after (at + n) v) k 0 ≡ getD after k 0 = λ k h. getD-set-other after (at + n) k v 0 h in
       record {
         size = length-set after (at + n) v ∙ long;
         inside = λ i h. go i h (decLt i n);
@@ -44,10 +46,12 @@ module _ {at n : ℕ} {f : ℕ → ℕ} {buffer after : List ℕ} (P : Patch at 
           ap (λ j. getD (set after (at + n) v) (at + j) 0) q ∙ getD-set-same after (at + n) v 0 (omega arith) ∙ is ∙ ap f (sym q)
 
   -- a store inside the stretch
-  pub patch-store : (g : ℕ → ℕ) (j v : ℕ) → at + n ≤ length buffer → j < n → v ≡ g j → ((i : ℕ) → i ≢ j → f i ≡ g i) → Patch at n g buffer (set after (at + j) v)
+  pub patch-store : (g : ℕ → ℕ) (j v : ℕ) → at + n ≤ length buffer → j < n → v ≡ g j → ((i : ℕ) → i ≢ j → f i ≡ g i)
+      → Patch at n g buffer (set after (at + j) v)
   patch-store g j v room l is same =
       let long = P .size in
-      let other : (k : ℕ) → (k ≡ at + j → ⊥) → getD (set after (at + j) v) k 0 ≡ getD after k 0 = λ k h. getD-set-other after (at + j) k v 0 h in
+      let other : (k : ℕ) → (k ≡ at + j → ⊥)
+      → getD (set after (at + j) v) k 0 ≡ getD after k 0 = λ k h. getD-set-other after (at + j) k v 0 h in
       record {
         size = length-set after (at + j) v ∙ long;
         inside = λ i h. go i h (ℕ-discrete i j);
@@ -66,7 +70,8 @@ module _ {at n : ℕ} {f : ℕ → ℕ} {buffer after : List ℕ} (P : Patch at 
   patch-all m e = rw (← e) P
 
   -- a stretch that follows it
-  pub patch-join : {m : ℕ} {g : ℕ → ℕ} {last : List ℕ} → Patch (at + n) m g after last → ((i : ℕ) → i < m → g i ≡ f (n + i)) → Patch at (n + m) f buffer last
+  pub patch-join : {m : ℕ} {g : ℕ → ℕ} {last : List ℕ} → Patch (at + n) m g after last → ((i : ℕ) → i < m → g i ≡ f (n + i))
+      → Patch at (n + m) f buffer last
   patch-join {m} {g} {last} Q same = record {
     size = Q .size ∙ P .size;
     inside = λ i h. go i h (decLt i n);
@@ -91,7 +96,12 @@ module _ {at n : ℕ} {f : ℕ → ℕ} {buffer after : List ℕ} (P : Patch at 
 
   -- the same stretch once more
   pub patch-over : {g : ℕ → ℕ} {last : List ℕ} → Patch at n g after last → Patch at n g buffer last
-  patch-over Q = record { size = Q .size ∙ P .size; inside = Q .inside; earlier = λ k l. Q .earlier k l ∙ P .earlier k l; later = λ k l. Q .later k l ∙ P .later k l }
+  patch-over Q = record {
+    size = Q .size ∙ P .size;
+    inside = Q .inside;
+    earlier = λ k l. Q .earlier k l ∙ P .earlier k l;
+    later = λ k l. Q .later k l ∙ P .later k l;
+  }
 
 -- the rows above `row` of a raster are filled
 pub record Rows (width : ℕ) (f : ℕ → ℕ → ℕ) (row : ℕ) (buffer after : List ℕ) : Type 0 where
@@ -124,7 +134,8 @@ module _ {width height margin : ℕ} {levels : List ℕ} (given : Canvas width h
   canvas-after e = record { wide = given .wide; high = given .high; room = e ∙ given .room }
 
   -- a row of the area is in the levels, and its places are small numbers
-  pub row-room : (row : ℕ) → row < canvasSide height margin → (row * canvasSide width margin + canvasSide width margin ≤ length levels) × (length levels ≤ 4096 * 4096)
+  pub row-room : (row : ℕ) → row < canvasSide height margin
+      → (row * canvasSide width margin + canvasSide width margin ≤ length levels) × (length levels ≤ 4096 * 4096)
   row-room row l =
       let s = given .room in
       let e = row-end (canvasSide width margin) (canvasSide height margin) row l in
@@ -132,9 +143,12 @@ module _ {width height margin : ℕ} {levels : List ℕ} (given : Canvas width h
       (omega arith, omega arith)
 
   -- and so is a row of the frame, from its margin on
-  pub frame-room : (row : ℕ) → row < height → ((row + margin) * canvasSide width margin + margin + width ≤ length levels) × (length levels ≤ 4096 * 4096)
+  pub frame-room : (row : ℕ) → row < height
+      → ((row + margin) * canvasSide width margin + margin + width ≤ length levels) × (length levels ≤ 4096 * 4096)
   frame-room row l = let s = row-room (row + margin) (omega arith) in (omega arith, s .1)
 
 -- levels counted from the margin on are those of the frame
-pub from-margin : (levels : List ℕ) (start margin : ℕ) → _≡_ {A = ℕ → ℕ} (λ col. getD levels (start + margin + col) 0) (λ col. getD levels (start + (col + margin)) 0)
-from-margin levels start margin = fun-ext (λ col. ap (λ k. getD levels k 0) (let e : start + margin + col ≡ start + (col + margin) = omega arith in e))
+pub from-margin : (levels : List ℕ) (start margin : ℕ)
+    → _≡_ {A = ℕ → ℕ} (λ col. getD levels (start + margin + col) 0) (λ col. getD levels (start + (col + margin)) 0)
+from-margin levels start margin =
+    fun-ext (λ col. ap (λ k. getD levels k 0) (let e : start + margin + col ≡ start + (col + margin) = omega arith in e))

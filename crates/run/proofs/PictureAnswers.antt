@@ -1,5 +1,6 @@
 -- The answers of collecting and thresholding, what their buffers hold, and that no second outcome meets their contracts.
--- Both judge the record, the levels, the room and the rows done; what the code copies or packs within limits is what the definitions say of each kind.
+-- Both judge the record, the levels, the room and the rows done; what the code copies or packs within limits is what the
+-- definitions say of each kind.
 use Prim.Native.Nat.{ℕ, suc, _+_, _*_, _≤_, _<_}
 use native.Mathlib.Numerals.{add-one}
 use native.Mathlib.Omega.{arith}
@@ -12,13 +13,14 @@ use lib.ListN.{length}
 use borrow.Author.Tests.{lt-ltb, le-ltb, eq-eqb, ne-eqb, eqb-true, not-false}
 use Rattle.basics.specs.Refusals.{Refusal, first}
 use Rattle.basics.specs.Tables.{raster}
-use Rattle.basics.proofs.RefusalLaws.{answers-unique}
+use Rattle.basics.proofs.RefusalLaws.{rule-unique}
 use Rattle.sheet.specs.Sheets.{rowBytes, packed}
 use Rattle.row.specs.RowRule.{none}
 use Rattle.run.specs.declared.Record.{Record}
 use Rattle.run.specs.Records.{isErosion, margin, due, recordBad}
 use Rattle.run.specs.Continuing.{levelsWrong, isDone}
-use Rattle.run.specs.Pictures.{collectedLevel, collected, collectRefusals, Collects, isHeldAt, thresholded, sizeLimit, thresholdRefusals, Thresholds}
+use Rattle.run.specs.Pictures.{collectedLevel, collected, collectRefusals, Collects, isHeldAt, thresholded, sizeLimit}
+use Rattle.run.specs.Pictures.{thresholdRefusals, Thresholds}
 use Rattle.run.specs.Patches.{Canvas, levelIn, limitedTo, heldBetween}
 use Rattle.run.proofs.RecordLaws.{Sound, sound, not-bad}
 
@@ -28,7 +30,8 @@ sound-record r a = sound r (not-bad r a .0)
 
 module _ {r : Record} (s : Sound r) where
   -- its levels cover its area
-  pub area-canvas : (levels : List ℕ) → levelsWrong r levels ≡ false → (m : ℕ) → m ≡ margin r → Canvas (r .width) (r .height) m levels
+  pub area-canvas : (levels : List ℕ) → levelsWrong r levels ≡ false → (m : ℕ) → m ≡ margin r
+      → Canvas (r .width) (r .height) m levels
   area-canvas levels e m q = rw q (record { wide = s .area-wide; high = s .area-high; room = eqb-true _ _ (not-false _ e) })
 
   -- its sizes are small
@@ -40,11 +43,13 @@ module _ {r : Record} (s : Sound r) where
       go false l = let k = s .cap-small in omega arith
 
   -- a level within the limit is the level collected
-  collected-level : (limit : ℕ) → limit ≡ cond (isErosion r) none (r .cap + 1) → (level : ℕ) → limitedTo limit level ≡ collectedLevel r level
+  collected-level : (limit : ℕ) → limit ≡ cond (isErosion r) none (r .cap + 1) → (level : ℕ)
+      → limitedTo limit level ≡ collectedLevel r level
   unfolding limitedTo
   collected-level limit e level = rw e (go (isErosion r))
     where
-      go : (t : Bool) → cond (eqb (cond t none (r .cap + 1)) none || leb level (cond t none (r .cap + 1))) level 0 ≡ cond t level (cond (leb level (suc (r .cap))) level 0)
+      go : (t : Bool) → cond (eqb (cond t none (r .cap + 1)) none || leb level (cond t none (r .cap + 1))) level 0
+          ≡ cond t level (cond (leb level (suc (r .cap))) level 0)
       go true = refl
       go false = let k = s .cap-small in rw (ne-eqb (r .cap + 1) none (λ z. omega arith), add-one (r .cap))
 
@@ -52,10 +57,12 @@ module _ {r : Record} (s : Sound r) where
       → raster (r .width) (r .height) (λ row col. limitedTo limit (levelIn (r .width) m levels row col)) ≡ collected r levels
   unfolding collected
   is-collected levels m q limit e =
-      rw q (ap (λ f. raster (r .width) (r .height) f) (fun-ext (λ row. fun-ext (λ col. collected-level limit e (levelIn (r .width) (margin r) levels row col)))))
+      rw q (ap (λ f. raster (r .width) (r .height) f)
+      (fun-ext (λ row. fun-ext (λ col. collected-level limit e (levelIn (r .width) (margin r) levels row col)))))
 
   -- a level between the bounds is a level held
-  pub held-level : (n : ℕ) → n ≤ 4096 → (low high : ℕ) → low ≡ cond (isErosion r) n 0 → high ≡ cond (isErosion r) none (n + 1) → (level : ℕ) → heldBetween low high level ≡ cond (isHeldAt r n level) 1 0
+  pub held-level : (n : ℕ) → n ≤ 4096 → (low high : ℕ) → low ≡ cond (isErosion r) n 0 → high ≡ cond (isErosion r) none (n + 1)
+      → (level : ℕ) → heldBetween low high level ≡ cond (isHeldAt r n level) 1 0
   unfolding heldBetween
   held-level n l low high a b level = rw (a, b) (go (isErosion r))
     where
@@ -65,15 +72,20 @@ module _ {r : Record} (s : Sound r) where
       swap false true = refl
       swap false false = refl
 
-      go : (t : Bool) → _≡_ {A = ℕ} (cond ((eqb (cond t none (n + 1)) none || leb level (cond t none (n + 1))) && ltb (cond t n 0) level) 1 0) (cond (cond t (ltb n level) (leb 1 level && leb level (suc n))) 1 0)
+      go : (t : Bool) → _≡_ {A = ℕ}
+          (cond ((eqb (cond t none (n + 1)) none || leb level (cond t none (n + 1))) && ltb (cond t n 0) level) 1 0)
+          (cond (cond t (ltb n level) (leb 1 level && leb level (suc n))) 1 0)
       go true = refl
       go false = rw (ne-eqb (n + 1) none (λ z. omega arith), add-one n) (swap (leb level (suc n)) (leb 1 level))
 
-  pub is-thresholded : (levels : List ℕ) (n : ℕ) → n ≤ 4096 → (m : ℕ) → m ≡ margin r → (low high : ℕ) → low ≡ cond (isErosion r) n 0 → high ≡ cond (isErosion r) none (n + 1)
-      → packed (r .width) (r .height) (λ row col. heldBetween low high (levelIn (r .width) m levels row col)) ≡ thresholded r levels n
+  pub is-thresholded : (levels : List ℕ) (n : ℕ) → n ≤ 4096 → (m : ℕ) → m ≡ margin r → (low high : ℕ)
+      → low ≡ cond (isErosion r) n 0 → high ≡ cond (isErosion r) none (n + 1)
+      → packed (r .width) (r .height) (λ row col. heldBetween low high (levelIn (r .width) m levels row col))
+      ≡ thresholded r levels n
   unfolding thresholded
   is-thresholded levels n l m q low high a b =
-      rw q (ap (λ f. packed (r .width) (r .height) f) (fun-ext (λ row. fun-ext (λ col. held-level n l low high a b (levelIn (r .width) (margin r) levels row col)))))
+      rw q (ap (λ f. packed (r .width) (r .height) f)
+      (fun-ext (λ row. fun-ext (λ col. held-level n l low high a b (levelIn (r .width) (margin r) levels row col)))))
 
 -- refusals 11 and 13, which both judge last
 module _ (r : Record) (out : List ℕ) (room : ℕ) where
@@ -97,11 +109,12 @@ module _ (r : Record) (levels out : List ℕ) where
     pub collect-levels : levelsWrong r levels ≡ true → first (collectRefusals r levels out) ≡ 10
     collect-levels b = rw (a, b)
 
-    pub collect-last : levelsWrong r levels ≡ false → {number : ℕ} → first (last r out (r .height * r .width)) ≡ number → first (collectRefusals r levels out) ≡ number
+    pub collect-last : levelsWrong r levels ≡ false → {number : ℕ} → first (last r out (r .height * r .width)) ≡ number
+        → first (collectRefusals r levels out) ≡ number
     collect-last b e = rw (a, b) e
 
   pub collect-unique : (m n : ℕ) (x y : List ℕ) → Collects r levels out m x → Collects r levels out n y → (m ≡ n) × (x ≡ y)
-  collect-unique = answers-unique (λ x y p q. p ∙ sym q)
+  collect-unique = rule-unique
 
 module _ (r : Record) (levels : List ℕ) (n : ℕ) (out : List ℕ) where
   pub threshold-record : recordBad r ≡ true → first (thresholdRefusals r levels n out) ≡ 1
@@ -115,8 +128,10 @@ module _ (r : Record) (levels : List ℕ) (n : ℕ) (out : List ℕ) where
       pub threshold-levels : levelsWrong r levels ≡ true → first (thresholdRefusals r levels n out) ≡ 10
       threshold-levels b = rw (a, le-ltb (sizeLimit r) n l, b)
 
-      pub threshold-last : levelsWrong r levels ≡ false → {number : ℕ} → first (last r out (r .height * rowBytes (r .width))) ≡ number → first (thresholdRefusals r levels n out) ≡ number
+      pub threshold-last : levelsWrong r levels ≡ false → {number : ℕ}
+          → first (last r out (r .height * rowBytes (r .width))) ≡ number → first (thresholdRefusals r levels n out) ≡ number
       threshold-last b e = rw (a, le-ltb (sizeLimit r) n l, b) e
 
-  pub threshold-unique : (k m : ℕ) (x y : List ℕ) → Thresholds r levels n out k x → Thresholds r levels n out m y → (k ≡ m) × (x ≡ y)
-  threshold-unique = answers-unique (λ x y p q. p ∙ sym q)
+  pub threshold-unique : (k m : ℕ) (x y : List ℕ) → Thresholds r levels n out k x → Thresholds r levels n out m y
+      → (k ≡ m) × (x ≡ y)
+  threshold-unique = rule-unique

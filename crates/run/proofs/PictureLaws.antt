@@ -9,7 +9,8 @@ use Rattle.run.specs.Patches.{Patch, levelIn, limitedTo, heldBetween}
 use Rattle.run.proofs.PatchLaws.{Rows, rows-turn, rows-all, row-end, from-margin}
 
 -- a row of the packed sheet is in the output
-pub bytes-room : (width height row bytes : ℕ) → bytes ≡ rowBytes width → row < height → row * bytes + rowBytes width ≤ height * rowBytes width
+pub bytes-room : (width height row bytes : ℕ) → bytes ≡ rowBytes width → row < height
+    → row * bytes + rowBytes width ≤ height * rowBytes width
 bytes-room width height row bytes e l = rw e (row-end (rowBytes width) height row l)
 
 module _ (width margin : ℕ) (levels : List ℕ) where
@@ -18,21 +19,30 @@ module _ (width margin : ℕ) (levels : List ℕ) where
   copiedLevel limit row col = limitedTo limit (levelIn width margin levels row col)
 
   pub copied-row : (limit : ℕ) {row : ℕ} {out after last : List ℕ} → Rows width (copiedLevel limit) row out after
-      → Patch (row * width) width (λ i. limitedTo limit (getD levels ((row + margin) * canvasSide width margin + margin + i) 0)) after last → Rows width (copiedLevel limit) (row + 1) out last
+      → Patch (row * width) width
+      (λ i. limitedTo limit (getD levels ((row + margin) * canvasSide width margin + margin + i) 0)) after last
+      → Rows width (copiedLevel limit) (row + 1) out last
   copied-row limit {row} {out} {after} {last} P Q =
-      rows-turn P (subst (λ (f : ℕ → ℕ). Patch (row * width) width (λ i. limitedTo limit (f i)) after last) (from-margin levels ((row + margin) * canvasSide width margin) margin) Q)
+      rows-turn P (subst (λ (f : ℕ → ℕ). Patch (row * width) width (λ i. limitedTo limit (f i)) after last)
+      (from-margin levels ((row + margin) * canvasSide width margin) margin) Q)
 
   -- the bytes of the packed sheet, by row and place
   abbrev pub packedLevel : ℕ → ℕ → ℕ → ℕ → ℕ
   packedLevel low high row = packedByte width (λ col. heldBetween low high (levelIn width margin levels row col))
 
-  pub packed-row : (low high : ℕ) {row bytes : ℕ} {out after last : List ℕ} → Rows (rowBytes width) (packedLevel low high) row out after → bytes ≡ rowBytes width
-      → Patch (row * bytes) (rowBytes width) (packedByte width (λ i. heldBetween low high (getD levels ((row + margin) * canvasSide width margin + margin + i) 0))) after last
+  pub packed-row : (low high : ℕ) {row bytes : ℕ} {out after last : List ℕ}
+      → Rows (rowBytes width) (packedLevel low high) row out after → bytes ≡ rowBytes width
+      → Patch (row * bytes) (rowBytes width)
+      (packedByte width (λ i. heldBetween low high
+      (getD levels ((row + margin) * canvasSide width margin + margin + i) 0))) after last
       → Rows (rowBytes width) (packedLevel low high) (row + 1) out last
   packed-row low high {row} {bytes} {out} {after} {last} P e Q =
-      rows-turn P (subst (λ (f : ℕ → ℕ). Patch (row * rowBytes width) (rowBytes width) (packedByte width (λ i. heldBetween low high (f i))) after last) (from-margin levels ((row + margin) * canvasSide width margin) margin) (rw e at Q))
+      rows-turn P (subst (λ (f : ℕ → ℕ). Patch (row * rowBytes width) (rowBytes width)
+      (packedByte width (λ i. heldBetween low high (f i))) after last)
+      (from-margin levels ((row + margin) * canvasSide width margin) margin) (rw e at Q))
 
-  pub packed-all : (low high height : ℕ) {row : ℕ} {out after : List ℕ} → Rows (rowBytes width) (packedLevel low high) row out after → row ≡ height → length out ≡ height * rowBytes width
+  pub packed-all : (low high height : ℕ) {row : ℕ} {out after : List ℕ}
+      → Rows (rowBytes width) (packedLevel low high) row out after → row ≡ height → length out ≡ height * rowBytes width
       → after ≡ packed width height (λ row col. heldBetween low high (levelIn width margin levels row col))
   unfolding packed
   packed-all low high height P e s = rows-all P height e s

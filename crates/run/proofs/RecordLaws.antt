@@ -11,19 +11,17 @@ use lib.Dec.{eqb, ltb}
 use lib.ListN.{length, getD, drop, drop-of-length-le}
 use lib.Seq.{drop-cons}
 use borrow.Author.Tests.{lt-ltb, le-ltb, le-leb, lt-leb, eq-eqb, ne-eqb, eqb-true, eqb-false, ltb-false, not-false}
+use Rattle.basics.proofs.BoundLaws.{neither}
+use Rattle.basics.specs.Bounds.{anyAbove}
 use Rattle.grid.specs.Figures.{reach}
-use Rattle.element.specs.Elements.{isSide, anyAboveOne, countSet}
+use Rattle.element.specs.Elements.{isSide, countSet}
 use Rattle.element.specs.Cells.{isHeld}
 use Rattle.element.proofs.ElementLaws.{side-bounds}
 use Rattle.sheet.specs.Sheets.{isSideOut}
 use Rattle.sheet.proofs.FrameLaws.{side-in}
 use Rattle.run.specs.declared.Record.{Record}
-use Rattle.run.specs.Records.{marginOf, margin, areaWidth, areaHeight, due, outside, anyOutside, elementForeign, capForeign, foreign, recordBad}
-
--- a disjunction that is false
-pub neither : (a b : Bool) → a || b ≡ false → (a ≡ false) × (b ≡ false)
-neither false b e = (refl, e)
-neither true b e = absurd (true≢false e)
+use Rattle.run.specs.Records.{marginOf, margin, areaWidth, areaHeight, due, outside, anyOutside, elementForeign, capForeign}
+use Rattle.run.specs.Records.{foreign, recordBad}
 
 -- places of the seven
 pub held-before : (side p : ℕ) → p < 3 - reach side → false ≡ isHeld side p
@@ -56,7 +54,8 @@ module _ (side : ℕ) (cells : List ℕ) (k : ℕ) where
   unfolding anyOutside
   outside-found l e = rw (next l, e)
 
-  pub outside-passed : k < length cells → outside side (getD cells k 0) k ≡ false → anyOutside side (drop k cells) k ≡ anyOutside side (drop (k + 1) cells) (k + 1)
+  pub outside-passed : k < length cells → outside side (getD cells k 0) k ≡ false
+      → anyOutside side (drop k cells) k ≡ anyOutside side (drop (k + 1) cells) (k + 1)
   unfolding anyOutside
   outside-passed l e = rw (next l, e)
 
@@ -71,11 +70,11 @@ module _ (side : ℕ) (cells : List ℕ) where
   element-side e = rw e
 
   module _ (a : isSide side ≡ true) where
-    pub element-byte : anyAboveOne cells ≡ true → true ≡ elementForeign side cells
+    pub element-byte : anyAbove 1 cells ≡ true → true ≡ elementForeign side cells
     unfolding elementForeign
     element-byte b = rw (a, b)
 
-    module _ (b : anyAboveOne cells ≡ false) where
+    module _ (b : anyAbove 1 cells ≡ false) where
       pub element-outside : anyOutside side cells 0 ≡ true → true ≡ elementForeign side cells
       unfolding elementForeign
       element-outside c = rw (a, b, c)
@@ -94,7 +93,9 @@ pub taken-side : (side : ℕ) (cells : List ℕ) → elementForeign side cells �
 unfolding elementForeign
 taken-side side cells e = go (isSide side) refl e
   where
-    go : (t : Bool) → isSide side ≡ t → not t || anyAboveOne cells || anyOutside side cells 0 || eqb (getD cells 24 0) 0 || eqb (countSet cells) 1 ≡ false → isSide side ≡ true
+    go : (t : Bool) → isSide side ≡ t
+        → not t || anyAbove 1 cells || anyOutside side cells 0 || eqb (getD cells 24 0) 0 || eqb (countSet cells) 1 ≡ false
+        → isSide side ≡ true
     go true p q = p
     go false p q = absurd (true≢false q)
 
@@ -121,11 +122,22 @@ module _ (r : Record) where
       module _ (l : r .cap ≤ 2047) (m : ℕ) (q : m ≡ margin r) where
         pub cap-width : 4096 < r .width + (m + m) → true ≡ capForeign r
         unfolding capForeign
-        cap-width w = rw (ne-eqb (r .kind) 1 n, eq-eqb (r .kind) 2 e, le-ltb 2047 (r .cap) l, lt-ltb 4096 (areaWidth r) (rw q at w))
+        cap-width w = rw (
+          ne-eqb (r .kind) 1 n,
+          eq-eqb (r .kind) 2 e,
+          le-ltb 2047 (r .cap) l,
+          lt-ltb 4096 (areaWidth r) (rw q at w),
+        )
 
         pub cap-height : r .width + (m + m) ≤ 4096 → ltb 4096 (r .height + (m + m)) ≡ capForeign r
         unfolding capForeign
-        cap-height w = rw (ne-eqb (r .kind) 1 n, eq-eqb (r .kind) 2 e, le-ltb 2047 (r .cap) l, le-ltb 4096 (areaWidth r) (rw q at w), q)
+        cap-height w = rw (
+          ne-eqb (r .kind) 1 n,
+          eq-eqb (r .kind) 2 e,
+          le-ltb 2047 (r .cap) l,
+          le-ltb 4096 (areaWidth r) (rw q at w),
+          q,
+        )
 
   -- and on the whole
   pub foreign-width : isSideOut (r .width) ≡ true → true ≡ foreign r
@@ -159,7 +171,7 @@ pub record Sound (r : Record) : Type 0 where
   pub wide : (1 ≤ r .width) × (r .width ≤ 4096)
   pub high : (1 ≤ r .height) × (r .height ≤ 4096)
   pub side-is : isSide (r .side) ≡ true
-  pub binary : anyAboveOne (r .cells) ≡ false
+  pub binary : anyAbove 1 (r .cells) ≡ false
   pub square : anyOutside (r .side) (r .cells) 0 ≡ false
   pub centre : getD (r .cells) 24 0 ≢ 0
   pub others : countSet (r .cells) ≢ 1
@@ -174,7 +186,9 @@ sound-cap : (r : Record) → capForeign r ≡ false → r .width ≤ 4096 → r 
 unfolding capForeign
 sound-cap r q w h = go (eqb (r .kind) 1) refl q
   where
-    go : (t : Bool) → eqb (r .kind) 1 ≡ t → cond t (not (eqb (r .cap) 0)) (not (eqb (r .kind) 2) || ltb 2047 (r .cap) || ltb 4096 (areaWidth r) || ltb 4096 (areaHeight r)) ≡ false
+    go : (t : Bool) → eqb (r .kind) 1 ≡ t
+        → cond t (not (eqb (r .cap) 0))
+        (not (eqb (r .kind) 2) || ltb 2047 (r .cap) || ltb 4096 (areaWidth r) || ltb 4096 (areaHeight r)) ≡ false
         → (((r .kind ≡ 1) × (r .cap ≡ 0)) ⊎ (r .kind ≡ 2)) × (r .cap ≤ 2047) × (areaWidth r ≤ 4096) × (areaHeight r ≤ 4096)
     go true k e =
         let z : r .cap ≡ 0 = eqb-true (r .cap) 0 (not-false (eqb (r .cap) 0) e) in
@@ -183,8 +197,12 @@ sound-cap r q w h = go (eqb (r .kind) 1) refl q
     go false k e =
         let f = neither (not (eqb (r .kind) 2) || ltb 2047 (r .cap) || ltb 4096 (areaWidth r)) (ltb 4096 (areaHeight r)) e in
         let g = neither (not (eqb (r .kind) 2) || ltb 2047 (r .cap)) (ltb 4096 (areaWidth r)) (f .0) in
-        let i = neither (not (eqb (r .kind) 2)) (ltb 2047 (r .cap)) (g .0) in
-        (inr (eqb-true (r .kind) 2 (not-false (eqb (r .kind) 2) (i .0))), ltb-false 2047 (r .cap) (i .1), ltb-false 4096 (areaWidth r) (g .1), ltb-false 4096 (areaHeight r) (f .1))
+        let i = neither (not (eqb (r .kind) 2)) (ltb 2047 (r .cap)) (g .0) in (
+          inr (eqb-true (r .kind) 2 (not-false (eqb (r .kind) 2) (i .0))),
+          ltb-false 2047 (r .cap) (i .1),
+          ltb-false 4096 (areaWidth r) (g .1),
+          ltb-false 4096 (areaHeight r) (f .1),
+        )
 
 pub sound : (r : Record) → foreign r ≡ false → Sound r
 unfolding foreign elementForeign
@@ -192,10 +210,12 @@ sound r e =
     let f = neither (isSideOut (r .width) || isSideOut (r .height) || elementForeign (r .side) (r .cells)) (capForeign r) e in
     let g = neither (isSideOut (r .width) || isSideOut (r .height)) (elementForeign (r .side) (r .cells)) (f .0) in
     let s = neither (isSideOut (r .width)) (isSideOut (r .height)) (g .0) in
-    let h = neither (not (isSide (r .side)) || anyAboveOne (r .cells) || anyOutside (r .side) (r .cells) 0 || eqb (getD (r .cells) 24 0) 0) (eqb (countSet (r .cells)) 1) (g .1) in
-    let i = neither (not (isSide (r .side)) || anyAboveOne (r .cells) || anyOutside (r .side) (r .cells) 0) (eqb (getD (r .cells) 24 0) 0) (h .0) in
-    let j = neither (not (isSide (r .side)) || anyAboveOne (r .cells)) (anyOutside (r .side) (r .cells) 0) (i .0) in
-    let k = neither (not (isSide (r .side))) (anyAboveOne (r .cells)) (j .0) in
+    let h = neither (not (isSide (r .side)) || anyAbove 1 (r .cells) || anyOutside (r .side) (r .cells) 0 ||
+    eqb (getD (r .cells) 24 0) 0) (eqb (countSet (r .cells)) 1) (g .1) in
+    let i = neither (not (isSide (r .side)) || anyAbove 1 (r .cells) || anyOutside (r .side) (r .cells) 0)
+    (eqb (getD (r .cells) 24 0) 0) (h .0) in
+    let j = neither (not (isSide (r .side)) || anyAbove 1 (r .cells)) (anyOutside (r .side) (r .cells) 0) (i .0) in
+    let k = neither (not (isSide (r .side))) (anyAbove 1 (r .cells)) (j .0) in
     let c = sound-cap r (f .1) (side-in (r .width) (s .0) .1) (side-in (r .height) (s .1) .1) in
     record {
       wide = side-in (r .width) (s .0);

@@ -1,4 +1,5 @@
--- The cells that a sound record scans with: they stay within the side's reach, and their partners are the element, or the element turned about.
+-- The cells that a sound record scans with: they stay within the side's reach, and their partners are the element, or the element
+-- turned about.
 -- Cell k of the seven by seven is entry k of the flat row, or entry 48 - k where the cells are turned.
 use Prim.Native.Nat.{ℕ, zero, suc, _+_, _-_, _*_, _/_, _%_, _≤_, _<_}
 use native.Mathlib.Omega.{arith}
@@ -8,6 +9,7 @@ use mathlib.Core.Logic.{_≢_}
 use mathlib.Core.List.{List, [], _∷_}
 use lib.ListN.{getD}
 use borrow.Author.Tests.{ne-eqb}
+use Rattle.basics.proofs.BoundLaws.{neither}
 use Rattle.grid.specs.Points.{neg}
 use Rattle.grid.specs.Sets.{reflect, _≈_}
 use Rattle.grid.specs.Figures.{reach}
@@ -22,45 +24,54 @@ use Rattle.scan.specs.Look.{partners}
 use Rattle.scan.proofs.PartnerLaws.{partners-element}
 use Rattle.run.specs.declared.Record.{Record}
 use Rattle.run.specs.Records.{isErosion, cellsOf, outside, anyOutside}
-use Rattle.run.proofs.RecordLaws.{Sound, neither}
+use Rattle.run.proofs.RecordLaws.{Sound}
 
 cell-flat : (cells : List ℕ) (k : ℕ) → k < 49 → cellNumber (unflat cells) k ≡ getD cells k 0
 unfolding cellNumber unflat
-cell-flat cells k l = seven-at (byteAt 7 cells) (k / 7) (k % 7) (omega arith) (omega arith) ∙ ap (λ n. getD cells n 0) (let e : k / 7 * 7 + k % 7 ≡ k = omega arith in e)
+cell-flat cells k l = seven-at (byteAt 7 cells) (k / 7) (k % 7) (omega arith) (omega arith)
+    ∙ ap (λ n. getD cells n 0) (let e : k / 7 * 7 + k % 7 ≡ k = omega arith in e)
 
 cell-turned : (cells : List ℕ) (k : ℕ) → k < 49 → cellNumber (turned (unflat cells)) k ≡ getD cells (48 - k) 0
 unfolding cellNumber turned
 cell-turned cells k l =
     seven-at (λ row col. cellAt (unflat cells) (6 - row) (6 - col)) (k / 7) (k % 7) (omega arith) (omega arith)
-    ∙ ap₂ (cellAt (unflat cells)) (let e : 6 - k / 7 ≡ (48 - k) / 7 = omega arith in e) (let e : 6 - k % 7 ≡ (48 - k) % 7 = omega arith in e)
+    ∙ ap₂ (cellAt (unflat cells)) (let e : 6 - k / 7 ≡ (48 - k) / 7 = omega arith in e)
+    (let e : 6 - k % 7 ≡ (48 - k) % 7 = omega arith in e)
     ∙ cell-flat cells (48 - k) (omega arith)
 
 -- no cell is set outside the square
-pub none-outside : (side : ℕ) (cells : List ℕ) (from : ℕ) → anyOutside side cells from ≡ false → (k : ℕ) → getD cells k 0 ≢ 0 → outside side (getD cells k 0) (from + k) ≡ false
+pub none-outside : (side : ℕ) (cells : List ℕ) (from : ℕ) → anyOutside side cells from ≡ false → (k : ℕ) → getD cells k 0 ≢ 0
+    → outside side (getD cells k 0) (from + k) ≡ false
 unfolding anyOutside
 none-outside side [] from e k n = absurd (n refl)
-none-outside side (cell ∷ rest) from e zero n = let f = neither (outside side cell from) (anyOutside side rest (from + 1)) e in rw (let z : from + 0 ≡ from = omega arith in z) (f .0)
+none-outside side (cell ∷ rest) from e zero n = let f = neither (outside side cell from) (anyOutside side rest (from + 1)) e in
+    rw (let z : from + 0 ≡ from = omega arith in z) (f .0)
 none-outside side (cell ∷ rest) from e (suc k) n =
     let f = neither (outside side cell from) (anyOutside side rest (from + 1)) e in
     rw (let z : from + suc k ≡ from + 1 + k = omega arith in z) (none-outside side rest (from + 1) (f .1) k n)
 
-pub held-square : (side cell k : ℕ) → cell ≢ 0 → outside side cell k ≡ false → (isHeld side (k / 7) ≡ true) × (isHeld side (k % 7) ≡ true)
+pub held-square : (side cell k : ℕ) → cell ≢ 0 → outside side cell k ≡ false
+    → (isHeld side (k / 7) ≡ true) × (isHeld side (k % 7) ≡ true)
 unfolding outside
 held-square side cell k n e = go (isHeld side (k / 7)) (isHeld side (k % 7)) refl refl (rw (ne-eqb cell 0 n) at e)
   where
-    go : (a b : Bool) → isHeld side (k / 7) ≡ a → isHeld side (k % 7) ≡ b → not (a && b) ≡ false → (isHeld side (k / 7) ≡ true) × (isHeld side (k % 7) ≡ true)
+    go : (a b : Bool) → isHeld side (k / 7) ≡ a → isHeld side (k % 7) ≡ b → not (a && b) ≡ false
+        → (isHeld side (k / 7) ≡ true) × (isHeld side (k % 7) ≡ true)
     go true true p q e = (p, q)
     go true false p q e = absurd (true≢false e)
     go false b p q e = absurd (true≢false e)
 
 module _ (r : Record) (s : Sound r) where
   set-row : (k : ℕ) → getD (r .cells) k 0 ≢ 0 → (3 - reach (r .side) ≤ k / 7) × (k / 7 < 3 - reach (r .side) + r .side)
-  set-row k n = held-bounds (r .side) (k / 7) (held-square (r .side) (getD (r .cells) k 0) k n (rw (let z : 0 + k ≡ k = omega arith in z) at (none-outside (r .side) (r .cells) 0 (s .square) k n)) .0)
+  set-row k n = held-bounds (r .side) (k / 7)
+      (held-square (r .side) (getD (r .cells) k 0) k n
+      (rw (let z : 0 + k ≡ k = omega arith in z) at (none-outside (r .side) (r .cells) 0 (s .square) k n)) .0)
 
   pub scan-reaches : Reaches (reach (r .side)) (cellsOf r)
   scan-reaches = record { above = λ k l n. go (isErosion r) k l n }
     where
-      go : (t : Bool) (k : ℕ) → k < 49 → cellNumber (cond t (unflat (r .cells)) (turned (unflat (r .cells)))) k ≢ 0 → 3 ≤ k / 7 + reach (r .side)
+      go : (t : Bool) (k : ℕ) → k < 49 → cellNumber (cond t (unflat (r .cells)) (turned (unflat (r .cells)))) k ≢ 0
+          → 3 ≤ k / 7 + reach (r .side)
       go true k l n = let b = set-row k (λ z. n (cell-flat (r .cells) k l ∙ z)) in omega arith
       go false k l n =
           let b = set-row (48 - k) (λ z. n (cell-turned (r .cells) k l ∙ z)) in
@@ -70,7 +81,8 @@ module _ (r : Record) (s : Sound r) where
   -- every cell is 0 or 1, turned or not
   flat-binary : (i j : ℕ) → i < 7 → j < 7 → cellAt (unflat (r .cells)) i j ≤ 1
   unfolding unflat
-  flat-binary i j a b = let e = seven-at (byteAt 7 (r .cells)) i j a b in let h = byte-binary (r .cells) (s .binary) (i * 7 + j) in omega arith
+  flat-binary i j a b = let e = seven-at (byteAt 7 (r .cells)) i j a b in
+      let h = byte-binary (r .cells) (s .binary) (i * 7 + j) in omega arith
 
   turned-binary : (i j : ℕ) → i < 7 → j < 7 → cellAt (turned (unflat (r .cells))) i j ≤ 1
   unfolding turned

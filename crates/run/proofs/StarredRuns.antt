@@ -5,12 +5,13 @@ use native.Mathlib.Omega.{arith}
 use mathlib.Core.Path.{_≡_, refl, ap, ap₂}
 use mathlib.Core.List.{List, [], _∷_}
 use lib.ListN.{length, getD, drop}
+use Rattle.basics.specs.Bounds.{anyAbove}
 use Rattle.basics.specs.Refusals.{Refusal, first}
 use Rattle.basics.specs.Tables.{table, raster}
 use Rattle.grid.specs.Starred.{Question, erosionLevels, openingLevels, dilationLevels, closingLevels, erodedBy, openedBy, Case}
 use Rattle.grid.specs.Starred.{table as cases}
 use Rattle.grid.proofs.Searches.{Yes, by-test, both-dec, same-dec}
-use Rattle.element.specs.Elements.{isSide, anyAboveOne, countSet}
+use Rattle.element.specs.Elements.{isSide, countSet}
 use Rattle.element.specs.Cells.{sevenBySeven, isHeld, centredCell, centred, turned, flat, unflat}
 use Rattle.sheet.specs.Sheets.{pixel, isSideOut, packedByte, packed}
 use Rattle.row.specs.RowRule.{cellNumber, within, levelAt, partner, least, firstMet, lowered, pointRule, place, columns, rowRule}
@@ -50,7 +51,7 @@ all-dec (c ∷ rest) = both-dec (given-dec (c .question) c) (all-dec rest)
 
 -- THE CLAIM
 pub starred-runs : RunsGive cases
-unfolding Yes list-dec shows-dec given-dec all-dec both-dec same-dec ℕ-discrete isSide anyAboveOne countSet isSideOut outside anyOutside elementForeign capForeign foreign recordBad table raster sevenBySeven isHeld centredCell centred turned flat unflat pixel packedByte packed cellNumber within levelAt partner least firstMet lowered pointRule place columns rowRule scanRow scanRows inked startLevels collected thresholded
+unfolding Yes list-dec shows-dec given-dec all-dec both-dec same-dec ℕ-discrete isSide anyAbove countSet isSideOut outside anyOutside elementForeign capForeign foreign recordBad table raster sevenBySeven isHeld centredCell centred turned flat unflat pixel packedByte packed cellNumber within levelAt partner least firstMet lowered pointRule place columns rowRule scanRow scanRows inked startLevels collected thresholded
 starred-runs = by-test (all-dec cases) tt
 
 pub after-one-row : AfterOneRow

@@ -1,4 +1,5 @@
--- The start levels, row by row: off the frame's rows all is off; in them the left margin, the pixels and the right margin follow one another.
+-- The start levels, row by row: off the frame's rows all is off; in them the left margin, the pixels and the right margin follow
+-- one another.
 use Prim.Native.Nat.{ℕ, _+_, _-_, _*_, _≤_, _<_}
 use native.Mathlib.Nat.{add-assoc}
 use native.Mathlib.Omega.{arith}
@@ -18,7 +19,8 @@ abbrev pub startLevel : ℕ → ℕ → ℕ → List ℕ → ℕ → ℕ → ℕ
 startLevel width height margin sheet on off row col = cond (inked width height margin sheet row col) on off
 
 -- a row of the frame is in the sheet
-pub row-bytes : (width height margin row : ℕ) → margin ≤ row → row < margin + height → (row - margin) * rowBytes width + rowBytes width ≤ height * rowBytes width
+pub row-bytes : (width height margin row : ℕ) → margin ≤ row → row < margin + height
+    → (row - margin) * rowBytes width + rowBytes width ≤ height * rowBytes width
 row-bytes width height margin row a b = row-end (rowBytes width) height (row - margin) (omega arith)
 
 module _ (width height margin : ℕ) (sheet : List ℕ) (on off row : ℕ) where
@@ -37,13 +39,26 @@ module _ (width height margin : ℕ) (sheet : List ℕ) (on off row : ℕ) where
 
     column-right : (col : ℕ) → margin + width ≤ col → off ≡ startLevel width height margin sheet on off row col
     unfolding inked
-    column-right col l = rw (le-leb margin row a, lt-ltb row (margin + height) b, le-leb margin col (omega arith), le-ltb col (margin + width) l)
+    column-right col l = rw (
+      le-leb margin row a,
+      lt-ltb row (margin + height) b,
+      le-leb margin col (omega arith),
+      le-ltb col (margin + width) l,
+    )
 
-    column-in : (col : ℕ) → col < width → cond (eqb (pixel width sheet (row - margin) col) 1) on off ≡ startLevel width height margin sheet on off row (margin + col)
+    column-in : (col : ℕ) → col < width
+        → cond (eqb (pixel width sheet (row - margin) col) 1) on off
+        ≡ startLevel width height margin sheet on off row (margin + col)
     unfolding inked
     column-in col l =
         let e : margin + col - margin ≡ col = omega arith in
-        rw (le-leb margin row a, lt-ltb row (margin + height) b, le-leb margin (margin + col) (omega arith), lt-ltb (margin + col) (margin + width) (omega arith), e)
+        rw (
+          le-leb margin row a,
+          lt-ltb row (margin + height) b,
+          le-leb margin (margin + col) (omega arith),
+          lt-ltb (margin + col) (margin + width) (omega arith),
+          e,
+        )
 
     -- the left margin, the pixels and the right margin are the row
     pub row-parts : {at : ℕ} {buffer left middle after : List ℕ} → Patch at margin (λ _. off) buffer left
@@ -52,11 +67,14 @@ module _ (width height margin : ℕ) (sheet : List ℕ) (on off row : ℕ) where
         → Patch at (canvasSide width margin) (startLevel width height margin sheet on off row) buffer after
     row-parts {at} {buffer} {left} {middle} {after} P Q R =
         patch-all
-        (patch-join (patch-join (patch-as P (startLevel width height margin sheet on off row) column-left) Q column-in) (rw (add-assoc at margin width) at R) (λ i l. column-right (margin + width + i) (omega arith)))
+        (patch-join (patch-join (patch-as P (startLevel width height margin sheet on off row) column-left) Q column-in)
+        (rw (add-assoc at margin width) at R) (λ i l. column-right (margin + width + i) (omega arith)))
         (canvasSide width margin) (omega arith)
 
 -- all rows of the area are the start levels
-pub start-raster : (on off : ℕ) (sheet : List ℕ) {width height margin : ℕ} {levels after : List ℕ} {row : ℕ} → Canvas width height margin levels
-    → Rows (canvasSide width margin) (startLevel width height margin sheet on off) row levels after → row ≡ canvasSide height margin → after ≡ startLevels width height margin sheet on off
+pub start-raster : (on off : ℕ) (sheet : List ℕ) {width height margin : ℕ} {levels after : List ℕ} {row : ℕ}
+    → Canvas width height margin levels
+    → Rows (canvasSide width margin) (startLevel width height margin sheet on off) row levels after
+    → row ≡ canvasSide height margin → after ≡ startLevels width height margin sheet on off
 unfolding startLevels
 start-raster on off sheet {width} {height} {margin} given filled e = rows-all filled (canvasSide height margin) e (given .room)

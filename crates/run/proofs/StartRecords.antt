@@ -1,5 +1,6 @@
 -- Refusal 1 is exact: the records that some start gives, rows done aside, are those that are not foreign.
--- One way the cells of an accepted element pass every test; the other way the square cut out of the cells is an accepted element that gives them back.
+-- One way the cells of an accepted element pass every test; the other way the square cut out of the cells is an accepted element
+-- that gives them back.
 use Prim.Native.Nat.{ℕ, zero, suc, _+_, _-_, _*_, _/_, _%_, _≤_, _<_}
 use native.Mathlib.Decide.{ℕ-discrete, decLt}
 use native.Mathlib.Omega.{arith}
@@ -10,12 +11,13 @@ use mathlib.Core.List.{List, [], _∷_}
 use lib.Dec.{eqb}
 use lib.ListN.{length, getD, List·getD-eq-default}
 use borrow.Author.Tests.{eq-eqb, ne-eqb, le-ltb}
+use Rattle.basics.specs.Bounds.{anyAbove}
 use Rattle.basics.specs.Refusals.{first}
 use Rattle.basics.specs.Tables.{raster}
 use Rattle.basics.proofs.Arithmetic.{row-of, column-of, entry-of, row-below, column-below}
 use Rattle.basics.proofs.TableLaws.{length-raster, getD-raster, raster-is}
 use Rattle.grid.specs.Figures.{reach}
-use Rattle.element.specs.Elements.{byteAt, anyAboveOne, countSet, elementRefusals}
+use Rattle.element.specs.Elements.{byteAt, countSet, elementRefusals}
 use Rattle.element.specs.Cells.{cellAt, isHeld, centredCell, centred, flat, sevenBySeven}
 use Rattle.element.proofs.ElementLaws.{side-bounds, held-in, cell-in, cell-row-out, cell-column-out, accept-element}
 use Rattle.element.proofs.Meaning.{seven-at, held-bounds}
@@ -26,17 +28,20 @@ use Rattle.run.proofs.RecordLaws.{Sound}
 use Rattle.run.proofs.ScanCells.{none-outside, held-square}
 
 -- lists judged entry by entry
-all-binary : (l : List ℕ) → ((k : ℕ) → getD l k 0 ≤ 1) → anyAboveOne l ≡ false
-unfolding anyAboveOne
+all-binary : (l : List ℕ) → ((k : ℕ) → getD l k 0 ≤ 1) → anyAbove 1 l ≡ false
+unfolding anyAbove
 all-binary [] h = refl
 all-binary (b ∷ rest) h = rw (le-ltb 1 b (h 0)) (all-binary rest (λ k. h (suc k)))
 
-all-inside : (side : ℕ) (l : List ℕ) (from : ℕ) → ((k : ℕ) → k < length l → outside side (getD l k 0) (from + k) ≡ false) → anyOutside side l from ≡ false
+all-inside : (side : ℕ) (l : List ℕ) (from : ℕ) → ((k : ℕ) → k < length l → outside side (getD l k 0) (from + k) ≡ false)
+    → anyOutside side l from ≡ false
 unfolding anyOutside
 all-inside side [] from h = refl
 all-inside side (cell ∷ rest) from h =
     let z : from + 0 ≡ from = omega arith in
-    rw (rw z at (h 0 (omega arith))) (all-inside side rest (from + 1) (λ k l. rw (let e : from + 1 + k ≡ from + suc k = omega arith in e) (h (suc k) (omega arith))))
+    rw (rw z at (h 0 (omega arith)))
+    (all-inside side rest (from + 1)
+    (λ k l. rw (let e : from + 1 + k ≡ from + suc k = omega arith in e) (h (suc k) (omega arith))))
 
 -- two set entries are not one
 some-count : (l : List ℕ) (i : ℕ) → getD l i 0 ≢ 0 → 1 ≤ countSet l
@@ -86,11 +91,13 @@ module _ (side : ℕ) (bytes : List ℕ) (given : Accepted side bytes) where
     where
       go : Dec (k < 49) → getD (flat (centred side bytes)) k 0 ≤ 1
       go (yes l) = let e = entry k l in let b = cell-binary (k / 7) (k % 7) in omega arith
-      go (no n) = let s = length-cells in let z = List·getD-eq-default (flat (centred side bytes)) 0 {n = k} (omega arith) in omega arith
+      go (no n) = let s = length-cells in let z = List·getD-eq-default (flat (centred side bytes)) 0 {n = k} (omega arith) in
+          omega arith
 
   cells-inside : (k : ℕ) → k < 49 → outside side (getD (flat (centred side bytes)) k 0) k ≡ false
   unfolding outside
-  cells-inside k l = ap (λ v. not (eqb v 0) && not (isHeld side (k / 7) && isHeld side (k % 7))) (entry k l) ∙ go (isHeld side (k / 7)) (isHeld side (k % 7)) refl refl
+  cells-inside k l = ap (λ v. not (eqb v 0) && not (isHeld side (k / 7) && isHeld side (k % 7))) (entry k l)
+      ∙ go (isHeld side (k / 7)) (isHeld side (k % 7)) refl refl
     where
       none : (v : ℕ) (b : Bool) → v ≡ 0 → not (eqb v 0) && b ≡ false
       none v b z = rw (eq-eqb v 0 z)
@@ -99,13 +106,17 @@ module _ (side : ℕ) (bytes : List ℕ) (given : Accepted side bytes) where
       drop-last true = refl
       drop-last false = refl
 
-      go : (a b : Bool) → isHeld side (k / 7) ≡ a → isHeld side (k % 7) ≡ b → not (eqb (centredCell side bytes (k / 7) (k % 7)) 0) && not (a && b) ≡ false
+      go : (a b : Bool) → isHeld side (k / 7) ≡ a → isHeld side (k % 7) ≡ b
+          → not (eqb (centredCell side bytes (k / 7) (k % 7)) 0) && not (a && b) ≡ false
       go true true p q = drop-last (not (eqb (centredCell side bytes (k / 7) (k % 7)) 0))
       go true false p q = none (centredCell side bytes (k / 7) (k % 7)) true (cell-column-out side bytes (k / 7) (k % 7) q)
-      go false b p q = none (centredCell side bytes (k / 7) (k % 7)) (not (false && b)) (cell-row-out side bytes (k / 7) (k % 7) p)
+      go false b p q = none (centredCell side bytes (k / 7) (k % 7)) (not (false && b))
+          (cell-row-out side bytes (k / 7) (k % 7) p)
 
   -- where a byte of the square stands among the 49
-  cell-of : (row col : ℕ) → row < side → col < side → (k : ℕ) × (k < 49) × (k / 7 ≡ row + (3 - reach side)) × (k % 7 ≡ col + (3 - reach side)) × (getD (flat (centred side bytes)) k 0 ≡ byteAt side bytes row col)
+  cell-of : (row col : ℕ) → row < side → col < side
+      → (k : ℕ) × (k < 49) × (k / 7 ≡ row + (3 - reach side)) × (k % 7 ≡ col + (3 - reach side)) ×
+      (getD (flat (centred side bytes)) k 0 ≡ byteAt side bytes row col)
   cell-of row col a b =
       let o = side-bounds side (given .side-is) in
       let m = 3 - reach side in
@@ -119,8 +130,10 @@ module _ (side : ℕ) (bytes : List ℕ) (given : Accepted side bytes) where
         q,
         entry k l
             ∙ ap₂ (centredCell side bytes) p q
-            ∙ cell-in side bytes (row + m) (col + m) (held-in side (row + m) (omega arith) (omega arith)) (held-in side (col + m) (omega arith) (omega arith))
-            ∙ ap₂ (byteAt side bytes) (let e : row + m - m ≡ row = omega arith in e) (let e : col + m - m ≡ col = omega arith in e),
+            ∙ cell-in side bytes (row + m) (col + m) (held-in side (row + m) (omega arith) (omega arith))
+            (held-in side (col + m) (omega arith) (omega arith))
+            ∙ ap₂ (byteAt side bytes) (let e : row + m - m ≡ row = omega arith in e)
+            (let e : col + m - m ≡ col = omega arith in e),
       )
 
   centre-cell : getD (flat (centred side bytes)) 24 0 ≢ 0
@@ -140,7 +153,9 @@ module _ (side : ℕ) (bytes : List ℕ) (given : Accepted side bytes) where
       let l : k < side * side = let b = h .1 in let s = given .size in omega arith in
       let c = cell-of (k / side) (k % side) (row-below side side k l) (column-below side side k l) in
       two-set (flat (centred side bytes)) 24 (c .0)
-      (λ e. h .2 (sym (entry-of side k) ∙ ap₂ (λ i j. i * side + j) (let p = c .2 in let q : k / side ≡ reach side = omega arith in q) (let p = c .3 in let q : k % side ≡ reach side = omega arith in q)))
+      (λ e. h .2 (sym (entry-of side k)
+      ∙ ap₂ (λ i j. i * side + j) (let p = c .2 in let q : k / side ≡ reach side = omega arith in q)
+      (let p = c .3 in let q : k % side ≡ reach side = omega arith in q)))
       centre-cell (λ z. h .3 (ap (λ n. getD bytes n 0) (sym (entry-of side k)) ∙ sym (c .4) ∙ z))
 
   pub start-cells-sound : elementForeign side (flat (centred side bytes)) ≡ false
@@ -149,7 +164,8 @@ module _ (side : ℕ) (bytes : List ℕ) (given : Accepted side bytes) where
       rw (
         given .side-is,
         all-binary (flat (centred side bytes)) cells-binary,
-        all-inside side (flat (centred side bytes)) 0 (λ k l. rw (let z : 0 + k ≡ k = omega arith in z) (cells-inside k (let s = length-cells in omega arith))),
+        all-inside side (flat (centred side bytes)) 0
+            (λ k l. rw (let z : 0 + k ≡ k = omega arith in z) (cells-inside k (let s = length-cells in omega arith))),
         ne-eqb (getD (flat (centred side bytes)) 24 0) 0 centre-cell,
         ne-eqb (countSet (flat (centred side bytes))) 1 other-cell,
       )
@@ -165,9 +181,11 @@ module _ (r : Record) (s : Sound r) (size : length (r .cells) ≡ 49) where
   abbrev bytes : List ℕ
   bytes = square (r .side) (r .cells)
 
-  byte-is : (row col : ℕ) → row < side → col < side → byteAt side bytes row col ≡ getD (r .cells) ((row + (3 - reach side)) * 7 + (col + (3 - reach side))) 0
+  byte-is : (row col : ℕ) → row < side → col < side
+      → byteAt side bytes row col ≡ getD (r .cells) ((row + (3 - reach side)) * 7 + (col + (3 - reach side))) 0
   unfolding square
-  byte-is row col a b = getD-raster side side (λ row col. getD (r .cells) ((row + (3 - reach side)) * 7 + (col + (3 - reach side))) 0) row col 0 a b
+  byte-is row col a b = getD-raster side side
+      (λ row col. getD (r .cells) ((row + (3 - reach side)) * 7 + (col + (3 - reach side))) 0) row col 0 a b
 
   length-bytes : length bytes ≡ side * side
   unfolding square
@@ -185,9 +203,13 @@ module _ (r : Record) (s : Sound r) (size : length (r .cells) ≡ 49) where
       go (no n) = let z = List·getD-eq-default bytes 0 {n = k} (let q = length-bytes in omega arith) in omega arith
 
   -- a set cell is a byte of the square
-  byte-of : (k : ℕ) → k < 49 → getD (r .cells) k 0 ≢ 0 → (3 - reach side ≤ k / 7) × (k / 7 - (3 - reach side) < side) × (3 - reach side ≤ k % 7) × (k % 7 - (3 - reach side) < side) × (byteAt side bytes (k / 7 - (3 - reach side)) (k % 7 - (3 - reach side)) ≡ getD (r .cells) k 0)
+  byte-of : (k : ℕ) → k < 49 → getD (r .cells) k 0 ≢ 0
+      → (3 - reach side ≤ k / 7) × (k / 7 - (3 - reach side) < side) × (3 - reach side ≤ k % 7) ×
+      (k % 7 - (3 - reach side) < side) ×
+      (byteAt side bytes (k / 7 - (3 - reach side)) (k % 7 - (3 - reach side)) ≡ getD (r .cells) k 0)
   byte-of k l n =
-      let h = held-square side (getD (r .cells) k 0) k n (rw (let z : 0 + k ≡ k = omega arith in z) at (none-outside side (r .cells) 0 (s .square) k n)) in
+      let h = held-square side (getD (r .cells) k 0) k n
+      (rw (let z : 0 + k ≡ k = omega arith in z) at (none-outside side (r .cells) 0 (s .square) k n)) in
       let a = held-bounds side (k / 7) (h .0) in
       let b = held-bounds side (k % 7) (h .1) in
       let c = a .0 in
@@ -197,13 +219,17 @@ module _ (r : Record) (s : Sound r) (size : length (r .cells) ≡ 49) where
         d,
         omega arith,
         byte-is (k / 7 - (3 - reach side)) (k % 7 - (3 - reach side)) (omega arith) (omega arith)
-            ∙ ap (λ n. getD (r .cells) n 0) (let e : (k / 7 - (3 - reach side) + (3 - reach side)) * 7 + (k % 7 - (3 - reach side) + (3 - reach side)) ≡ k = omega arith in e),
+            ∙ ap (λ n. getD (r .cells) n 0)
+            (let e : (k / 7 - (3 - reach side) + (3 - reach side)) * 7 + (k % 7 - (3 - reach side) + (3 - reach side))
+            ≡ k = omega arith in e),
       )
 
   centre-byte : byteAt side bytes (reach side) (reach side) ≢ 0
   centre-byte z =
       let o = side-bounds side (s .side-is) in
-      s .centre (ap (λ n. getD (r .cells) n 0) (let e : 24 ≡ (reach side + (3 - reach side)) * 7 + (reach side + (3 - reach side)) = omega arith in e) ∙ sym (byte-is (reach side) (reach side) (omega arith) (omega arith)) ∙ z)
+      s .centre (ap (λ n. getD (r .cells) n 0)
+      (let e : 24 ≡ (reach side + (3 - reach side)) * 7 + (reach side + (3 - reach side)) = omega arith in e)
+      ∙ sym (byte-is (reach side) (reach side) (omega arith) (omega arith)) ∙ z)
 
   other-byte : countSet bytes ≢ 1
   other-byte =
@@ -216,8 +242,10 @@ module _ (r : Record) (s : Sound r) (size : length (r .cells) ≡ 49) where
       let j = k % 7 - (3 - reach side) in
       two-set bytes (i * side + j) (reach side * side + reach side)
       (λ q. h .2
-      (let p : i ≡ reach side = sym (row-of side i j d) ∙ ap (λ n. n / side) q ∙ row-of side (reach side) (reach side) (omega arith) in
-      let t : j ≡ reach side = sym (column-of side i j d) ∙ ap (λ n. n % side) q ∙ column-of side (reach side) (reach side) (omega arith) in
+      (let p : i ≡ reach side = sym (row-of side i j d) ∙ ap (λ n. n / side) q
+      ∙ row-of side (reach side) (reach side) (omega arith) in
+      let t : j ≡ reach side = sym (column-of side i j d) ∙ ap (λ n. n % side) q
+      ∙ column-of side (reach side) (reach side) (omega arith) in
       omega arith))
       (λ z. h .3 (sym e ∙ z)) centre-byte
 
@@ -240,16 +268,22 @@ module _ (r : Record) (s : Sound r) (size : length (r .cells) ≡ 49) where
               cases : Dec (getD (r .cells) (row * 7 + col) 0 ≡ 0) → getD (r .cells) (row * 7 + col) 0 ≡ 0
               cases (yes z) = z
               cases (no n) =
-                  let h = held-square side (getD (r .cells) (row * 7 + col) 0) (row * 7 + col) n (rw (let z : 0 + (row * 7 + col) ≡ row * 7 + col = omega arith in z) at (none-outside side (r .cells) 0 (s .square) (row * 7 + col) n)) in
+                  let h = held-square side (getD (r .cells) (row * 7 + col) 0) (row * 7 + col) n
+                  (rw (let z : 0 + (row * 7 + col) ≡ row * 7 + col = omega arith in z) at
+                  (none-outside side (r .cells) 0 (s .square) (row * 7 + col) n)) in
                   absurd (f (rw (row-of 7 row col b) at (h .0)) (rw (column-of 7 row col b) at (h .1)))
 
-          go : (p q : Bool) → isHeld side row ≡ p → isHeld side col ≡ q → getD (r .cells) (row * 7 + col) 0 ≡ centredCell side bytes row col
+          go : (p q : Bool) → isHeld side row ≡ p → isHeld side col ≡ q
+              → getD (r .cells) (row * 7 + col) 0 ≡ centredCell side bytes row col
           go true true p q =
               let x = held-bounds side row p in
               let y = held-bounds side col q in
               let c = x .0 in
               let d = y .0 in
-              sym (cell-in side bytes row col p q ∙ byte-is (row - (3 - reach side)) (col - (3 - reach side)) (omega arith) (omega arith)
-              ∙ ap₂ (λ i j. getD (r .cells) (i * 7 + j) 0) (let e : row - (3 - reach side) + (3 - reach side) ≡ row = omega arith in e) (let e : col - (3 - reach side) + (3 - reach side) ≡ col = omega arith in e))
+              sym (cell-in side bytes row col p q
+              ∙ byte-is (row - (3 - reach side)) (col - (3 - reach side)) (omega arith) (omega arith)
+              ∙ ap₂ (λ i j. getD (r .cells) (i * 7 + j) 0)
+              (let e : row - (3 - reach side) + (3 - reach side) ≡ row = omega arith in e)
+              (let e : col - (3 - reach side) + (3 - reach side) ≡ col = omega arith in e))
           go true false p q = unset (λ a b. false≢true (sym q ∙ b)) ∙ sym (cell-column-out side bytes row col q)
           go false q′ p q = unset (λ a b. false≢true (sym p ∙ a)) ∙ sym (cell-row-out side bytes row col p)

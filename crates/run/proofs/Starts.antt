@@ -1,5 +1,6 @@
 -- The answers of the two starts, and that no second outcome meets their contracts.
--- Both kinds judge the sheet and the element first, and after that a list of their own; where a start is accepted, each of its refusals was found not to apply.
+-- Both kinds judge the sheet and the element first, and after that a list of their own; where a start is accepted, each of its
+-- refusals was found not to apply.
 use Prim.Native.Nat.{ℕ, _*_, _≤_, _<_}
 use native.Mathlib.Omega.{arith}
 use mathlib.Core.Path.{_≡_, refl, sym, ap₂, _∙_}
@@ -10,7 +11,7 @@ use lib.Dec.{eqb, ltb}
 use lib.ListN.{length}
 use borrow.Author.Tests.{lt-ltb, le-ltb, ltb-false, eq-eqb, ne-eqb, eqb-true}
 use Rattle.basics.specs.Refusals.{Refusal, first, Answers}
-use Rattle.basics.proofs.RefusalLaws.{judged-first, judged-next, first-both, passed, refuses, accepts, answers-unique}
+use Rattle.basics.proofs.RefusalLaws.{judged-first, judged-next, first-both, passed, refuses, accepts, rule-unique}
 use Rattle.element.specs.Elements.{elementRefusals}
 use Rattle.element.specs.Cells.{centred, flat}
 use Rattle.element.proofs.Accepted.{Accepted, accepted}
@@ -18,12 +19,14 @@ use Rattle.sheet.specs.Sheets.{rowBytes, sheetRefusals}
 use Rattle.sheet.proofs.FrameLaws.{frame-sides, sheet-accepted}
 use Rattle.run.specs.declared.Record.{Record}
 use Rattle.run.specs.Records.{marginOf, canvasSide, noRecord}
-use Rattle.run.specs.Starting.{startRecord, erosionRefusals, StartsErosion, canvasSize, canvasRefusals, dilationRefusals, StartsDilation}
+use Rattle.run.specs.Starting.{startRecord, erosionRefusals, StartsErosion, canvasSize, canvasRefusals, dilationRefusals}
+use Rattle.run.specs.Starting.{StartsDilation}
 use Rattle.run.specs.Patches.{Canvas}
 
 -- the record of an accepted start
 pub begun-record : (kind width height cap side : ℕ) (bytes cells : List ℕ) → cells ≡ flat (centred side bytes)
-    → record { kind = kind; width = width; height = height; cap = cap; side = side; rows = 0; cells = cells } ≡ startRecord kind width height cap side bytes
+    → record { kind = kind; width = width; height = height; cap = cap; side = side; rows = 0; cells = cells }
+    ≡ startRecord kind width height cap side bytes
 begun-record kind width height cap side bytes cells e = rw e
 
 -- what an accepted start has: a sound frame, the sheet's bytes, and a sound element
@@ -50,16 +53,20 @@ module _ (width height : ℕ) (sheet : List ℕ) (side : ℕ) (bytes : List ℕ)
     abbrev erosionLater : List Refusal
     erosionLater = (10, not (eqb (length levels) (height * width))) ∷ []
 
-    pub erosion-common : {number : ℕ} → number ≢ 0 → number ≡ first common → number ≡ first (erosionRefusals width height sheet side bytes levels)
+    pub erosion-common : {number : ℕ} → number ≢ 0 → number ≡ first common
+        → number ≡ first (erosionRefusals width height sheet side bytes levels)
     erosion-common n e = judged-first common erosionLater n e
 
-    pub erosion-short : first common ≡ 0 → length levels ≢ height * width → 10 ≡ first (erosionRefusals width height sheet side bytes levels)
+    pub erosion-short : first common ≡ 0 → length levels ≢ height * width
+        → 10 ≡ first (erosionRefusals width height sheet side bytes levels)
     erosion-short z n = judged-next common erosionLater tt z (rw (ne-eqb (length levels) (height * width) n))
 
-    pub erosion-fits : first common ≡ 0 → length levels ≡ height * width → 0 ≡ first (erosionRefusals width height sheet side bytes levels)
+    pub erosion-fits : first common ≡ 0 → length levels ≡ height * width
+        → 0 ≡ first (erosionRefusals width height sheet side bytes levels)
     erosion-fits z e = judged-next common erosionLater tt z (rw (eq-eqb (length levels) (height * width) e))
 
-    pub erosion-taken : first (erosionRefusals width height sheet side bytes levels) ≡ 0 → (first common ≡ 0) × (length levels ≡ height * width)
+    pub erosion-taken : first (erosionRefusals width height sheet side bytes levels) ≡ 0
+        → (first common ≡ 0) × (length levels ≡ height * width)
     erosion-taken z = let p = first-both common erosionLater tt z in (p .0, go (eqb (length levels) (height * width)) refl (p .1))
       where
         go : (t : Bool) → eqb (length levels) (height * width) ≡ t → first ((10, not t) ∷ []) ≡ 0 → length levels ≡ height * width
@@ -77,13 +84,27 @@ module _ (width height cap side count : ℕ) where
       canvas-high b = rw (← q, le-ltb 4096 (canvasSide width m) a, lt-ltb 4096 (canvasSide height m) b)
 
       module _ (b : canvasSide height m ≤ 4096) where
-        pub canvas-short : count ≢ canvasSide height m * canvasSide width m → 10 ≡ first (canvasRefusals width height cap side count)
-        canvas-short n = rw (← q, le-ltb 4096 (canvasSide width m) a, le-ltb 4096 (canvasSide height m) b, ne-eqb count (canvasSide height m * canvasSide width m) n)
+        pub canvas-short : count ≢ canvasSide height m * canvasSide width m
+            → 10 ≡ first (canvasRefusals width height cap side count)
+        canvas-short n = rw (
+          ← q,
+          le-ltb 4096 (canvasSide width m) a,
+          le-ltb 4096 (canvasSide height m) b,
+          ne-eqb count (canvasSide height m * canvasSide width m) n,
+        )
 
-        pub canvas-fits : count ≡ canvasSide height m * canvasSide width m → 0 ≡ first (canvasRefusals width height cap side count)
-        canvas-fits e = rw (← q, le-ltb 4096 (canvasSide width m) a, le-ltb 4096 (canvasSide height m) b, eq-eqb count (canvasSide height m * canvasSide width m) e)
+        pub canvas-fits : count ≡ canvasSide height m * canvasSide width m
+            → 0 ≡ first (canvasRefusals width height cap side count)
+        canvas-fits e = rw (
+          ← q,
+          le-ltb 4096 (canvasSide width m) a,
+          le-ltb 4096 (canvasSide height m) b,
+          eq-eqb count (canvasSide height m * canvasSide width m) e,
+        )
 
-  pub canvas-taken : first (canvasRefusals width height cap side count) ≡ 0 → (canvasSide width (marginOf cap side) ≤ 4096) × (canvasSide height (marginOf cap side) ≤ 4096) × (count ≡ canvasSize width height cap side)
+  pub canvas-taken : first (canvasRefusals width height cap side count) ≡ 0
+      → (canvasSide width (marginOf cap side) ≤ 4096) × (canvasSide height (marginOf cap side) ≤ 4096) ×
+      (count ≡ canvasSize width height cap side)
   canvas-taken z = go (ltb 4096 w) (ltb 4096 h) (eqb count (h * w)) refl refl refl z
     where
       w : ℕ
@@ -92,7 +113,8 @@ module _ (width height cap side count : ℕ) where
       h : ℕ
       h = canvasSide height (marginOf cap side)
 
-      go : (a b t : Bool) → ltb 4096 w ≡ a → ltb 4096 h ≡ b → eqb count (h * w) ≡ t → first ((9, a || b) ∷ (10, not t) ∷ []) ≡ 0 → (w ≤ 4096) × (h ≤ 4096) × (count ≡ h * w)
+      go : (a b t : Bool) → ltb 4096 w ≡ a → ltb 4096 h ≡ b → eqb count (h * w) ≡ t → first ((9, a || b) ∷ (10, not t) ∷ []) ≡ 0
+          → (w ≤ 4096) × (h ≤ 4096) × (count ≡ h * w)
       go false false true p q e z = (ltb-false 4096 w p, ltb-false 4096 h q, eqb-true count (h * w) e)
       go false false false p q e z = absurd (omega arith)
       go false true t p q e z = absurd (omega arith)
@@ -103,17 +125,21 @@ module _ (width height : ℕ) (sheet : List ℕ) (side : ℕ) (bytes : List ℕ)
   abbrev dilationLater : List Refusal
   dilationLater = (8, ltb 2047 cap) ∷ canvasRefusals width height cap side (length levels)
 
-  pub dilation-common : {number : ℕ} → number ≢ 0 → number ≡ first (common width height sheet side bytes) → number ≡ first (dilationRefusals width height sheet side bytes cap levels)
+  pub dilation-common : {number : ℕ} → number ≢ 0 → number ≡ first (common width height sheet side bytes)
+      → number ≡ first (dilationRefusals width height sheet side bytes cap levels)
   dilation-common n e = judged-first (common width height sheet side bytes) dilationLater n e
 
   module _ (z : first (common width height sheet side bytes) ≡ 0) where
     pub dilation-cap : 2047 < cap → 8 ≡ first (dilationRefusals width height sheet side bytes cap levels)
     dilation-cap l = judged-next (common width height sheet side bytes) dilationLater tt z (rw (lt-ltb 2047 cap l))
 
-    pub dilation-canvas : cap ≤ 2047 → {number : ℕ} → number ≡ first (canvasRefusals width height cap side (length levels)) → number ≡ first (dilationRefusals width height sheet side bytes cap levels)
+    pub dilation-canvas : cap ≤ 2047 → {number : ℕ} → number ≡ first (canvasRefusals width height cap side (length levels))
+        → number ≡ first (dilationRefusals width height sheet side bytes cap levels)
     dilation-canvas l e = judged-next (common width height sheet side bytes) dilationLater tt z (rw (le-ltb 2047 cap l) e)
 
-  pub dilation-taken : first (dilationRefusals width height sheet side bytes cap levels) ≡ 0 → (first (common width height sheet side bytes) ≡ 0) × (cap ≤ 2047) × (first (canvasRefusals width height cap side (length levels)) ≡ 0)
+  pub dilation-taken : first (dilationRefusals width height sheet side bytes cap levels) ≡ 0
+      → (first (common width height sheet side bytes) ≡ 0) × (cap ≤ 2047) ×
+      (first (canvasRefusals width height cap side (length levels)) ≡ 0)
   dilation-taken z =
       let p = first-both (common width height sheet side bytes) dilationLater tt z in
       let q = passed 8 (ltb 2047 cap) (canvasRefusals width height cap side (length levels)) (λ e. absurd (omega arith)) (p .1) in
@@ -121,29 +147,43 @@ module _ (width height : ℕ) (sheet : List ℕ) (side : ℕ) (bytes : List ℕ)
 
 -- the answers
 module _ {refusals : List Refusal} {levels : List ℕ} {begun : Record} {started : List ℕ} where
-  pub start-refuses : {answered number : ℕ} {run : Record} → number ≢ 0 → number ≡ first refusals → (answered ≡ number) × (run ≡ noRecord) → Answers {A = Record × List ℕ} refusals (noRecord, levels) (λ x. x ≡ (begun, started)) answered (run, levels)
+  pub start-refuses : {answered number : ℕ} {run : Record} → number ≢ 0 → number ≡ first refusals
+      → (answered ≡ number) × (run ≡ noRecord)
+      → Answers {A = Record × List ℕ} refusals (noRecord, levels) (λ x. x ≡ (begun, started)) answered (run, levels)
   start-refuses {answered} {number} {run} n e (p, q) = rw (p, q) (refuses number n e)
 
-  pub start-accepts : {answered : ℕ} {run : Record} {after : List ℕ} → first refusals ≡ 0 → (answered ≡ 0) × (run ≡ begun) → after ≡ started → Answers {A = Record × List ℕ} refusals (noRecord, levels) (λ x. x ≡ (begun, started)) answered (run, after)
+  pub start-accepts : {answered : ℕ} {run : Record} {after : List ℕ} → first refusals ≡ 0 → (answered ≡ 0) × (run ≡ begun)
+      → after ≡ started → Answers {A = Record × List ℕ} refusals (noRecord, levels) (λ x. x ≡ (begun, started)) answered (
+        run,
+        after,
+      )
   start-accepts {answered} {run} {after} e (p, q) h = rw (p, q, h) (accepts (begun, started) e refl)
 
 -- an erosion has no margin
-pub frame-canvas : {width height : ℕ} {levels : List ℕ} → width ≤ 4096 → height ≤ 4096 → length levels ≡ height * width → Canvas width height 0 levels
+pub frame-canvas : {width height : ℕ} {levels : List ℕ} → width ≤ 4096 → height ≤ 4096 → length levels ≡ height * width
+    → Canvas width height 0 levels
 frame-canvas {width} {height} a b e = record {
   wide = omega arith;
   high = omega arith;
-  room = e ∙ ap₂ (λ h w. h * w) (let p : height ≡ canvasSide height 0 = omega arith in p) (let p : width ≡ canvasSide width 0 = omega arith in p);
+  room = e ∙ ap₂ (λ h w. h * w) (let p : height ≡ canvasSide height 0 = omega arith in p)
+      (let p : width ≡ canvasSide width 0 = omega arith in p);
 }
 
 -- a dilation's canvas, its margin worked out
-pub canvas-area : (width height cap side m : ℕ) (levels : List ℕ) → m ≡ marginOf cap side → first (canvasRefusals width height cap side (length levels)) ≡ 0 → Canvas width height m levels
-canvas-area width height cap side m levels q z = let t = canvas-taken width height cap side (length levels) z in rw q (record { wide = t .0; high = t .1; room = t .2 })
+pub canvas-area : (width height cap side m : ℕ) (levels : List ℕ) → m ≡ marginOf cap side
+    → first (canvasRefusals width height cap side (length levels)) ≡ 0 → Canvas width height m levels
+canvas-area width height cap side m levels q z = let t = canvas-taken width height cap side (length levels) z in
+    rw q (record { wide = t .0; high = t .1; room = t .2 })
 
 -- NO SECOND OUTCOME
-pub start-erosion-unique : (width height : ℕ) (sheet : List ℕ) (side : ℕ) (bytes levels : List ℕ) (m n : ℕ) (x y : Record × List ℕ)
-    → StartsErosion width height sheet side bytes levels m x → StartsErosion width height sheet side bytes levels n y → (m ≡ n) × (x ≡ y)
-start-erosion-unique width height sheet side bytes levels = answers-unique (λ x y p q. p ∙ sym q)
+pub start-erosion-unique : (width height : ℕ) (sheet : List ℕ) (side : ℕ) (bytes levels : List ℕ) (m n : ℕ)
+    (x y : Record × List ℕ)
+    → StartsErosion width height sheet side bytes levels m x → StartsErosion width height sheet side bytes levels n y
+    → (m ≡ n) × (x ≡ y)
+start-erosion-unique width height sheet side bytes levels = rule-unique
 
-pub start-dilation-unique : (width height : ℕ) (sheet : List ℕ) (side : ℕ) (bytes : List ℕ) (cap : ℕ) (levels : List ℕ) (m n : ℕ) (x y : Record × List ℕ)
-    → StartsDilation width height sheet side bytes cap levels m x → StartsDilation width height sheet side bytes cap levels n y → (m ≡ n) × (x ≡ y)
-start-dilation-unique width height sheet side bytes cap levels = answers-unique (λ x y p q. p ∙ sym q)
+pub start-dilation-unique : (width height : ℕ) (sheet : List ℕ) (side : ℕ) (bytes : List ℕ) (cap : ℕ) (levels : List ℕ) (m n : ℕ)
+    (x y : Record × List ℕ)
+    → StartsDilation width height sheet side bytes cap levels m x → StartsDilation width height sheet side bytes cap levels n y
+    → (m ≡ n) × (x ≡ y)
+start-dilation-unique width height sheet side bytes cap levels = rule-unique

@@ -21,15 +21,27 @@ abbrev pub worked : Record → ℕ → ℕ
 worked r allowance = min allowance (due r - r .rows)
 
 abbrev pub withRows : Record → ℕ → Record
-withRows r rows = record { kind = r .kind; width = r .width; height = r .height; cap = r .cap; side = r .side; rows = rows; cells = r .cells }
+withRows r rows = record {
+  kind = r .kind;
+  width = r .width;
+  height = r .height;
+  cap = r .cap;
+  side = r .side;
+  rows = rows;
+  cells = r .cells;
+}
 
 abbrev pub isDone : Record → Bool
 isDone r = eqb (r .rows) (due r)
 
 -- the record, the levels and whether all is done, after an accepted continue: the row rule, for any levels lent
 abbrev pub continued : Record → List ℕ → ℕ → Record × Bool × List ℕ
-continued r levels allowance =
-    (withRows r (r .rows + worked r allowance), isDone (withRows r (r .rows + worked r allowance)), scanRows (areaOf r) (r .rows) (worked r allowance) levels)
+continued r levels allowance = (
+  withRows r (r .rows + worked r allowance),
+  isDone (withRows r (r .rows + worked r allowance)),
+  scanRows (areaOf r) (r .rows) (worked r allowance) levels,
+)
 
 abbrev pub Continues : Record → List ℕ → ℕ → ℕ → Record × Bool × List ℕ → Type 0
-Continues r levels allowance = Answers (continueRefusals r levels allowance) (noRecord, false, levels) (λ after. after ≡ continued r levels allowance)
+Continues r levels allowance =
+    Answers (continueRefusals r levels allowance) (noRecord, false, levels) (λ after. after ≡ continued r levels allowance)

@@ -21,13 +21,17 @@ abbrev pub ErosionPicture : Type 0
 ErosionPicture =
     (width height : ℕ) (sheet : List ℕ) (side : ℕ) (bytes lent : List ℕ) (r : Record) (levels : List ℕ) →
     StartsErosion width height sheet side bytes lent 0 (r, levels) →
-    LevelsMean width height (IsErosionLevel (foreground width height sheet) (elementSet side bytes)) (collected r (finished r levels)) ×
-    ((n : ℕ) → SheetMeans width height (eroded (foreground width height sheet) (elementSet side bytes) n) (thresholded r (finished r levels) n))
+    LevelsMean width height (IsErosionLevel (foreground width height sheet) (elementSet side bytes))
+    (collected r (finished r levels)) ×
+    ((n : ℕ) → SheetMeans width height (eroded (foreground width height sheet) (elementSet side bytes) n)
+    (thresholded r (finished r levels) n))
 
 -- the same of a dilation, up to its cap
 abbrev pub DilationPicture : Type 0
 DilationPicture =
     (width height : ℕ) (sheet : List ℕ) (side : ℕ) (bytes : List ℕ) (cap : ℕ) (lent : List ℕ) (r : Record) (levels : List ℕ) →
     StartsDilation width height sheet side bytes cap lent 0 (r, levels) →
-    LevelsMean width height (IsDilationLevel cap (foreground width height sheet) (elementSet side bytes)) (collected r (finished r levels)) ×
-    ((n : ℕ) → n ≤ cap → SheetMeans width height (dilated (foreground width height sheet) (elementSet side bytes) n) (thresholded r (finished r levels) n))
+    LevelsMean width height (IsDilationLevel cap (foreground width height sheet) (elementSet side bytes))
+    (collected r (finished r levels)) ×
+    ((n : ℕ) → n ≤ cap → SheetMeans width height (dilated (foreground width height sheet) (elementSet side bytes) n)
+    (thresholded r (finished r levels) n))

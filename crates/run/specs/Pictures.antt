@@ -25,7 +25,8 @@ collected r levels = raster (r .width) (r .height) (λ row col. collectedLevel r
 
 abbrev pub collectRefusals : Record → List ℕ → List ℕ → List Refusal
 collectRefusals r levels out =
-    (1, recordBad r) ∷ (10, levelsWrong r levels) ∷ (11, not (eqb (length out) (r .height * r .width))) ∷ (13, not (isDone r)) ∷ []
+    (1, recordBad r) ∷ (10, levelsWrong r levels) ∷ (11, not (eqb (length out) (r .height * r .width))) ∷ (13, not (isDone r)) ∷
+    []
 
 abbrev pub Collects : Record → List ℕ → List ℕ → ℕ → List ℕ → Type 0
 Collects r levels out = Answers (collectRefusals r levels out) out (λ after. after ≡ collected r levels)
@@ -42,7 +43,8 @@ sizeLimit r = cond (isErosion r) 4096 (r .cap)
 
 abbrev pub thresholdRefusals : Record → List ℕ → ℕ → List ℕ → List Refusal
 thresholdRefusals r levels n out =
-    (1, recordBad r) ∷ (8, ltb (sizeLimit r) n) ∷ (10, levelsWrong r levels) ∷ (11, not (eqb (length out) (r .height * rowBytes (r .width)))) ∷ (13, not (isDone r)) ∷ []
+    (1, recordBad r) ∷ (8, ltb (sizeLimit r) n) ∷ (10, levelsWrong r levels) ∷
+    (11, not (eqb (length out) (r .height * rowBytes (r .width)))) ∷ (13, not (isDone r)) ∷ []
 
 abbrev pub Thresholds : Record → List ℕ → ℕ → List ℕ → ℕ → List ℕ → Type 0
 Thresholds r levels n out = Answers (thresholdRefusals r levels n out) out (λ after. after ≡ thresholded r levels n)

@@ -4,8 +4,9 @@ use mathlib.Core.Bool.{Bool, false, not, cond, _&&_, _||_}
 use mathlib.Core.List.{List, [], _∷_}
 use lib.Dec.{eqb, ltb}
 use lib.ListN.{getD, replicate}
+use Rattle.basics.specs.Bounds.{anyAbove}
 use Rattle.grid.specs.Figures.{reach}
-use Rattle.element.specs.Elements.{isSide, anyAboveOne, countSet}
+use Rattle.element.specs.Elements.{isSide, countSet}
 use Rattle.element.specs.Cells.{isHeld, turned, unflat}
 use Rattle.sheet.specs.Sheets.{isSideOut}
 use Rattle.row.specs.RowRule.{Area, none}
@@ -56,10 +57,12 @@ anyOutside side (cell ∷ rest) k = outside side cell k || anyOutside side rest 
 
 -- the record is none that a start could give, rows done aside (refusal 1 asks for the rows too)
 unfoldable pub elementForeign : ℕ → List ℕ → Bool
-elementForeign side cells = not (isSide side) || anyAboveOne cells || anyOutside side cells 0 || eqb (getD cells 24 0) 0 || eqb (countSet cells) 1
+elementForeign side cells = not (isSide side) || anyAbove 1 cells || anyOutside side cells 0 || eqb (getD cells 24 0) 0 ||
+    eqb (countSet cells) 1
 
 unfoldable pub capForeign : Record → Bool
-capForeign r = cond (isErosion r) (not (eqb (r .cap) 0)) (not (eqb (r .kind) 2) || ltb 2047 (r .cap) || ltb 4096 (areaWidth r) || ltb 4096 (areaHeight r))
+capForeign r = cond (isErosion r) (not (eqb (r .cap) 0))
+    (not (eqb (r .kind) 2) || ltb 2047 (r .cap) || ltb 4096 (areaWidth r) || ltb 4096 (areaHeight r))
 
 unfoldable pub foreign : Record → Bool
 foreign r = isSideOut (r .width) || isSideOut (r .height) || elementForeign (r .side) (r .cells) || capForeign r

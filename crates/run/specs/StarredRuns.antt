@@ -5,7 +5,8 @@ use mathlib.Core.List.{List, [], _∷_}
 use lib.ListN.{replicate}
 use Rattle.basics.specs.Refusals.{Refusal, first}
 use Rattle.basics.specs.Tables.{raster}
-use Rattle.grid.specs.Starred.{drawn, Question, erosionLevels, openingLevels, dilationLevels, closingLevels, erodedBy, openedBy, Case, fullRow}
+use Rattle.grid.specs.Starred.{drawn, Question, erosionLevels, openingLevels, dilationLevels, closingLevels, erodedBy, openedBy}
+use Rattle.grid.specs.Starred.{Case, fullRow}
 use Rattle.sheet.specs.Sheets.{packed}
 use Rattle.row.specs.RowRule.{none}
 use Rattle.scan.specs.Scan.{scanRows}
@@ -58,13 +59,16 @@ pub record Shows (start picture : List Refusal) (given answer : List ℕ) : Type
 -- so for the erosion and dilation questions of the table; the others are no runs' (StarredFilters of filters)
 abbrev pub Given : Question → Case → Type 0
 Given erosionLevels c =
-    Shows (erosionRefusals (c .width) (c .height) (sheetOf c) 3 (bytesOf c) (erodedLevels c)) (collectRefusals (whole (erosionOf c)) (erodedLevels c) (levelsOf c))
+    Shows (erosionRefusals (c .width) (c .height) (sheetOf c) 3 (bytesOf c) (erodedLevels c))
+    (collectRefusals (whole (erosionOf c)) (erodedLevels c) (levelsOf c))
     (collected (whole (erosionOf c)) (erodedLevels c)) (levelsOf c)
 Given (dilationLevels R) c =
-    Shows (dilationRefusals (c .width) (c .height) (sheetOf c) 3 (bytesOf c) R (dilatedLevels c R)) (collectRefusals (whole (dilationOf c R)) (dilatedLevels c R) (levelsOf c))
+    Shows (dilationRefusals (c .width) (c .height) (sheetOf c) 3 (bytesOf c) R (dilatedLevels c R))
+    (collectRefusals (whole (dilationOf c R)) (dilatedLevels c R) (levelsOf c))
     (collected (whole (dilationOf c R)) (dilatedLevels c R)) (levelsOf c)
 Given (erodedBy n) c =
-    Shows (erosionRefusals (c .width) (c .height) (sheetOf c) 3 (bytesOf c) (erodedLevels c)) (thresholdRefusals (whole (erosionOf c)) (erodedLevels c) n (pictureOf c))
+    Shows (erosionRefusals (c .width) (c .height) (sheetOf c) 3 (bytesOf c) (erodedLevels c))
+    (thresholdRefusals (whole (erosionOf c)) (erodedLevels c) n (pictureOf c))
     (thresholded (whole (erosionOf c)) (erodedLevels c) n) (pictureOf c)
 Given openingLevels c = Unit {0}
 Given (closingLevels R) c = Unit {0}

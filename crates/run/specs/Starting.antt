@@ -21,7 +21,8 @@ startRecord kind width height cap side bytes =
 -- the area's point at a row and a column is a foreground point of the frame
 unfoldable pub inked : ℕ → ℕ → ℕ → List ℕ → ℕ → ℕ → Bool
 inked width height margin sheet row col =
-    (leb margin row && ltb row (margin + height)) && (leb margin col && ltb col (margin + width)) && eqb (pixel width sheet (row - margin) (col - margin)) 1
+    (leb margin row && ltb row (margin + height)) && (leb margin col && ltb col (margin + width)) &&
+    eqb (pixel width sheet (row - margin) (col - margin)) 1
 
 -- start levels: one value on the foreground, another elsewhere in the area
 unfoldable pub startLevels : ℕ → ℕ → ℕ → List ℕ → ℕ → ℕ → List ℕ
@@ -41,19 +42,22 @@ StartsErosion width height sheet side bytes levels =
 
 -- the canvas of a cap: a side above 4,096, and its size
 abbrev pub canvasWrong : ℕ → ℕ → ℕ → ℕ → Bool
-canvasWrong width height cap side = ltb 4096 (canvasSide width (marginOf cap side)) || ltb 4096 (canvasSide height (marginOf cap side))
+canvasWrong width height cap side = ltb 4096 (canvasSide width (marginOf cap side)) ||
+    ltb 4096 (canvasSide height (marginOf cap side))
 
 abbrev pub canvasSize : ℕ → ℕ → ℕ → ℕ → ℕ
 canvasSize width height cap side = canvasSide height (marginOf cap side) * canvasSide width (marginOf cap side)
 
 -- 9 and 10 of a canvas with so many levels
 abbrev pub canvasRefusals : ℕ → ℕ → ℕ → ℕ → ℕ → List Refusal
-canvasRefusals width height cap side count = (9, canvasWrong width height cap side) ∷ (10, not (eqb count (canvasSize width height cap side))) ∷ []
+canvasRefusals width height cap side count = (9, canvasWrong width height cap side) ∷
+    (10, not (eqb count (canvasSize width height cap side))) ∷ []
 
 -- starting a dilation: 2 3 4 5 6 7 8 9 10
 abbrev pub dilationRefusals : ℕ → ℕ → List ℕ → ℕ → List ℕ → ℕ → List ℕ → List Refusal
 dilationRefusals width height sheet side bytes cap levels =
-    sheetRefusals width height sheet ++ (elementRefusals side bytes ++ (8, ltb 2047 cap) ∷ canvasRefusals width height cap side (length levels))
+    sheetRefusals width height sheet ++
+    (elementRefusals side bytes ++ (8, ltb 2047 cap) ∷ canvasRefusals width height cap side (length levels))
 
 -- 1 on A and 65,535 elsewhere on the canvas
 abbrev pub StartsDilation : ℕ → ℕ → List ℕ → ℕ → List ℕ → ℕ → List ℕ → ℕ → Record × List ℕ → Type 0

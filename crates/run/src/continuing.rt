@@ -74,7 +74,8 @@ pub fn continue_refusal(run: Record, levels: &[u16], allowance: usize) -> u32
 
 // Works `count` rows of those due.
 fn work_rows(run: Record, levels: &mut [u16], count: usize)
-    requires { ⌜ (foreign run ≡ false) × ((length (now levels) ≡ areaHeight run * areaWidth run) × (run .rows + count ≤ due run)) ⌝ }
+    requires { ⌜ (foreign run ≡ false) ×
+        ((length (now levels) ≡ areaHeight run * areaWidth run) × (run .rows + count ≤ due run)) ⌝ }
     ensures { λ _. ⌜ now (levels .exit) ≡ scanRows (areaOf run) (run .rows) count (now (levels .entry)) ⌝ }
 {
     let width = records::area_width(run);

@@ -24,7 +24,8 @@ fn limited(level: u16, limit: u16) -> u16
 // The `n` levels from `from` on go to the places from `at` on, each within the limit.
 fn copy_row(levels: &[u16], from: usize, n: usize, limit: u16, out: &mut [u16], at: usize)
     requires { ⌜ (from + n ≤ length (now levels)) × (at + n ≤ length (now out)) ⌝ }
-    ensures { λ _. ⌜ Patch at n (λ i. limitedTo limit (getD (now (levels .entry)) (from + i) 0)) (now (out .entry)) (now (out .exit)) ⌝ }
+    ensures { λ _. ⌜ Patch at n (λ i. limitedTo limit (getD (now (levels .entry)) (from + i) 0)) (now (out .entry))
+        (now (out .exit)) ⌝ }
 {
     let mut i = 0;
     while i < n {
@@ -44,7 +45,8 @@ fn copy_frame(
     out: &mut [u16],
 )
     requires { ⌜ Canvas width height margin (now levels) × (length (now out) ≡ height * width) ⌝ }
-    ensures { λ _. ⌜ now (out .exit) ≡ raster width height (λ row col. limitedTo limit (levelIn width margin (now (levels .entry)) row col)) ⌝ }
+    ensures { λ _. ⌜ now (out .exit)
+        ≡ raster width height (λ row col. limitedTo limit (levelIn width margin (now (levels .entry)) row col)) ⌝ }
 {
     let side = width + (margin + margin);
     let mut row = 0;
@@ -140,7 +142,9 @@ fn pack_row(
     at: usize,
 )
     requires { ⌜ (from + width ≤ length (now levels)) × ((width ≤ 4096) × (at + rowBytes width ≤ length (now out))) ⌝ }
-    ensures { λ _. ⌜ Patch at (rowBytes width) (packedByte width (λ col. heldBetween low high (getD (now (levels .entry)) (from + col) 0))) (now (out .entry)) (now (out .exit)) ⌝ }
+    ensures { λ _. ⌜ Patch at (rowBytes width)
+        (packedByte width (λ col. heldBetween low high (getD (now (levels .entry)) (from + col) 0))) (now (out .entry))
+        (now (out .exit)) ⌝ }
 {
     clear(out, at, sheet::row_bytes(width));
     let mut col = 0;
@@ -163,7 +167,8 @@ pub fn pack_frame(
     out: &mut [u8],
 )
     requires { ⌜ Canvas width height margin (now levels) × (length (now out) ≡ height * rowBytes width) ⌝ }
-    ensures { λ _. ⌜ now (out .exit) ≡ packed width height (λ row col. heldBetween low high (levelIn width margin (now (levels .entry)) row col)) ⌝ }
+    ensures { λ _. ⌜ now (out .exit)
+        ≡ packed width height (λ row col. heldBetween low high (levelIn width margin (now (levels .entry)) row col)) ⌝ }
 {
     let side = width + (margin + margin);
     let bytes = sheet::row_bytes(width);

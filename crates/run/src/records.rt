@@ -5,7 +5,8 @@ ghost use mathlib.Core.Bool.{true, false};
 ghost use Prim.Native.Nat.{_≤_};
 ghost use Rattle.element.specs.Elements.{isSide};
 ghost use Rattle.element.specs.Cells.{isHeld};
-ghost use Rattle.run.specs.Records.{marginOf, areaWidth, areaHeight, due, outside, anyOutside, elementForeign, capForeign, foreign, recordBad, noRecord};
+ghost use Rattle.run.specs.Records.{marginOf, areaWidth, areaHeight, due, outside, anyOutside, elementForeign, capForeign};
+ghost use Rattle.run.specs.Records.{foreign, recordBad, noRecord};
 ghost use Rattle.run.specs.Continuing.{levelsWrong};
 
 // Whether place `p` of seven is one of the side's, centred among the seven.

@@ -11,7 +11,8 @@ ghost use Rattle.basics.specs.Refusals.{first};
 ghost use Rattle.element.specs.Elements.{isSide, elementRefusals};
 ghost use Rattle.sheet.specs.Sheets.{pixel, rowBytes, sheetRefusals};
 ghost use Rattle.run.specs.Records.{canvasSide, noRecord};
-ghost use Rattle.run.specs.Starting.{startRecord, inked, startLevels, erosionRefusals, StartsErosion, canvasRefusals, dilationRefusals, StartsDilation};
+ghost use Rattle.run.specs.Starting.{startRecord, inked, startLevels, erosionRefusals, StartsErosion, canvasRefusals};
+ghost use Rattle.run.specs.Starting.{dilationRefusals, StartsDilation};
 ghost use Rattle.run.specs.Patches.{Patch, Canvas};
 
 // What a start answers: the refusal number, 0 where it is accepted, and the run's record, all zero beside a refusal.
@@ -52,8 +53,10 @@ fn fill_pixels(
     on: u16,
     off: u16,
 )
-    requires { ⌜ (at + width ≤ length (now levels)) × ((width ≤ 4096) × ((row < 4096) × (row * rowBytes width + rowBytes width ≤ length (now sheet)))) ⌝ }
-    ensures { λ _. ⌜ Patch at width (λ col. cond (eqb (pixel width (now (sheet .entry)) row col) 1) on off) (now (levels .entry)) (now (levels .exit)) ⌝ }
+    requires { ⌜ (at + width ≤ length (now levels)) ×
+        ((width ≤ 4096) × ((row < 4096) × (row * rowBytes width + rowBytes width ≤ length (now sheet)))) ⌝ }
+    ensures { λ _. ⌜ Patch at width (λ col. cond (eqb (pixel width (now (sheet .entry)) row col) 1) on off) (now (levels .entry))
+        (now (levels .exit)) ⌝ }
 {
     let mut col = 0;
     while col < width {
@@ -74,8 +77,11 @@ fn fill_row(
     on: u16,
     off: u16,
 )
-    requires { ⌜ Canvas width height margin (now levels) × ((length (now sheet) ≡ height * rowBytes width) × (row < canvasSide height margin)) ⌝ }
-    ensures { λ _. ⌜ Patch (row * canvasSide width margin) (canvasSide width margin) (λ col. cond (inked width height margin (now (sheet .entry)) row col) on off) (now (levels .entry)) (now (levels .exit)) ⌝ }
+    requires { ⌜ Canvas width height margin (now levels) ×
+        ((length (now sheet) ≡ height * rowBytes width) × (row < canvasSide height margin)) ⌝ }
+    ensures { λ _. ⌜ Patch (row * canvasSide width margin) (canvasSide width margin)
+        (λ col. cond (inked width height margin (now (sheet .entry)) row col) on off) (now (levels .entry))
+        (now (levels .exit)) ⌝ }
 {
     let side = width + (margin + margin);
     let at = row * side;
@@ -153,7 +159,8 @@ pub fn erosion_refusal(
     bytes: &[u8],
     levels: &[u16],
 ) -> u32
-    ensures { λ r. ⌜ r ≡ first (erosionRefusals width height (now (sheet .entry)) side (now (bytes .entry)) (now (levels .entry))) ⌝ }
+    ensures { λ r. ⌜ r ≡ first
+        (erosionRefusals width height (now (sheet .entry)) side (now (bytes .entry)) (now (levels .entry))) ⌝ }
 {
     let refusal = start_refusal(width, height, sheet, side, bytes);
     if refusal != 0 {
@@ -175,7 +182,8 @@ pub fn dilation_refusal(
     cap: usize,
     levels: &[u16],
 ) -> u32
-    ensures { λ r. ⌜ r ≡ first (dilationRefusals width height (now (sheet .entry)) side (now (bytes .entry)) cap (now (levels .entry))) ⌝ }
+    ensures { λ r. ⌜ r ≡ first
+        (dilationRefusals width height (now (sheet .entry)) side (now (bytes .entry)) cap (now (levels .entry))) ⌝ }
 {
     let refusal = start_refusal(width, height, sheet, side, bytes);
     if refusal != 0 {
@@ -228,7 +236,8 @@ pub fn start_erosion(
     bytes: &[u8],
     levels: &mut [u16],
 ) -> Started
-    ensures { λ r. ⌜ StartsErosion width height (now (sheet .entry)) side (now (bytes .entry)) (now (levels .entry)) (r .refusal) (r .run, now (levels .exit)) ⌝ }
+    ensures { λ r. ⌜ StartsErosion width height (now (sheet .entry)) side (now (bytes .entry)) (now (levels .entry)) (r .refusal)
+        (r .run, now (levels .exit)) ⌝ }
 {
     let refusal = erosion_refusal(width, height, sheet, side, bytes, levels);
     if refusal != 0 {
@@ -248,7 +257,8 @@ pub fn start_dilation(
     cap: usize,
     levels: &mut [u16],
 ) -> Started
-    ensures { λ r. ⌜ StartsDilation width height (now (sheet .entry)) side (now (bytes .entry)) cap (now (levels .entry)) (r .refusal) (r .run, now (levels .exit)) ⌝ }
+    ensures { λ r. ⌜ StartsDilation width height (now (sheet .entry)) side (now (bytes .entry)) cap (now (levels .entry))
+        (r .refusal) (r .run, now (levels .exit)) ⌝ }
 {
     let refusal = dilation_refusal(width, height, sheet, side, bytes, cap, levels);
     if refusal != 0 {

@@ -1,5 +1,6 @@
 -- The scan finds the erosion level of every point.
--- Every point is live, for beyond the area the levels are 0. A walk that leaves A bounds the level (nothing larger fits), and the walk that the level comes from ends outside A (the next larger does not fit).
+-- Every point is live, for beyond the area the levels are 0. A walk that leaves A bounds the level (nothing larger fits), and the
+-- walk that the level comes from ends outside A (the next larger does not fit).
 -- No level stays at 65,535: as many steps as the larger side, by a point of K other than the origin, lead out of the frame.
 use mathlib.Core.Path.{_≡_, _∙_, subst}
 use mathlib.Core.Logic.{inr}
@@ -24,7 +25,8 @@ use Rattle.scan.proofs.Passes.{Live}
 use Rattle.scan.proofs.Raster.{area-scan}
 
 -- on the grid: a scan of levels that start with `top` on A and 0 elsewhere
-module _ {top : ℕ} {Live A K : PointSet} {S W : Point → ℕ} (g : GridScan top Live K S W) (live : (x : Point) → Live x) (o : K origin)
+module _ {top : ℕ} {Live A K : PointSet} {S W : Point → ℕ} (g : GridScan top Live K S W) (live : (x : Point) → Live x)
+    (o : K origin)
     (decide : (x : Point) → Dec (A x)) (on : (x : Point) → A x → S x ≡ top) (off : (x : Point) → ¬ A x → S x ≡ 0) where
   pub erosion-level : (x : Point) → W x < top → IsErosionLevel A K x (W x)
   erosion-level x small = record { holds = holds; above = above }
@@ -82,8 +84,11 @@ module _ {area : Area} {A K : PointSet} {start : List ℕ} (given : ErosionStart
 
   -- THE EROSION THEOREM
   pub erosion-scan : (x : Point) → IsErosionLevel A K x (look area final x)
-  erosion-scan x = erosion-level scanned live (given .has-origin) (given .decide) on off x (let l = erosion-small x in let a = given .narrow in let b = given .low in omega arith)
+  erosion-scan x = erosion-level scanned live (given .has-origin) (given .decide) on off x
+      (let l = erosion-small x in let a = given .narrow in let b = given .low in omega arith)
 
   -- read off the list
-  pub erosion-at : (row col : ℕ) → row < area .height → col < area .width → IsErosionLevel A K (spot row col) (getD final (row * area .width + col) 0)
-  erosion-at row col a b = subst (IsErosionLevel A K (spot row col)) (look-inside area final row col a b) (erosion-scan (spot row col))
+  pub erosion-at : (row col : ℕ) → row < area .height → col < area .width
+      → IsErosionLevel A K (spot row col) (getD final (row * area .width + col) 0)
+  erosion-at row col a b =
+      subst (IsErosionLevel A K (spot row col)) (look-inside area final row col a b) (erosion-scan (spot row col))

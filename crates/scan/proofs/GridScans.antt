@@ -1,5 +1,7 @@
--- The two-pass scan on the grid, for any start levels: each level comes from a point of some nN, and no point of nN would give less.
--- A fold nN is exactly the walks of n steps by offsets of N. Sums commute, so a walk may be sorted into the order of the two passes.
+-- The two-pass scan on the grid, for any start levels: each level comes from a point of some nN, and no point of nN would give
+-- less.
+-- A fold nN is exactly the walks of n steps by offsets of N. Sums commute, so a walk may be sorted into the order of the two
+-- passes.
 use mathlib.Core.Path.{_≡_, refl, sym, _∙_, ap, subst}
 use mathlib.Core.Logic.{_⊎_, inl, inr}
 use Prim.Native.Nat.{ℕ, zero, suc, _+_, _≤_, _<_}
@@ -7,7 +9,8 @@ use native.Mathlib.Omega.{arith}
 use Rattle.grid.specs.Points.{Point, origin, _⊕_}
 use Rattle.grid.specs.Sets.{PointSet, fold, _⊆_, _≈_}
 use Rattle.grid.proofs.PointLaws.{⊕-origin, ⊕-assoc, ⊕-swap}
-use Rattle.scan.proofs.Walks.{Walk, stop, step, Either, walk-map, walk-append, walk-inside, walk-sort, Scan, scan-sound, scan-bound}
+use Rattle.scan.proofs.Walks.{Walk, stop, step, Either, walk-map, walk-append, walk-inside, walk-sort, Scan, scan-sound}
+use Rattle.scan.proofs.Walks.{scan-bound}
 
 -- a step by an offset of N
 abbrev pub Step : PointSet → Point → Point → Type 0
@@ -26,7 +29,8 @@ pub record GridScan (top : ℕ) (Live N : PointSet) (S W : Point → ℕ) : Type
   pub cover : (b : Point) → N b → first b ⊎ second b
   pub scan : Scan top (LiveStep Live first) (LiveStep Live second) S W
 
-pub same-partners : {top : ℕ} {Live N N′ : PointSet} {S W : Point → ℕ} → N ≈ N′ → GridScan top Live N S W → GridScan top Live N′ S W
+pub same-partners : {top : ℕ} {Live N N′ : PointSet} {S W : Point → ℕ} → N ≈ N′ → GridScan top Live N S W
+    → GridScan top Live N′ S W
 same-partners same g = record {
   first = g .first;
   second = g .second;
@@ -39,7 +43,8 @@ same-partners same g = record {
 pub fold→walk : (N : PointSet) (n : ℕ) (b x : Point) → fold N n b → Walk (Step N) n x (x ⊕ b)
 fold→walk N zero b x h = subst (λ y. Walk (Step N) zero x y) (sym (⊕-origin x) ∙ ap (λ c. x ⊕ c) (sym h)) stop
 fold→walk N (suc n) b x (c, d, hc, hd, e) =
-    subst (λ y. Walk (Step N) (suc n) x y) (⊕-assoc x c d ∙ ap (λ c. x ⊕ c) (sym e)) (step (c, hc, refl) (fold→walk N n d (x ⊕ c) hd))
+    subst (λ y. Walk (Step N) (suc n) x y) (⊕-assoc x c d ∙ ap (λ c. x ⊕ c) (sym e))
+    (step (c, hc, refl) (fold→walk N n d (x ⊕ c) hd))
 
 pub walk→fold : {N : PointSet} {n : ℕ} {x y : Point} → Walk (Step N) n x y → (b : Point) × fold N n b × (y ≡ x ⊕ b)
 walk→fold {x = x} stop = (origin, refl, sym (⊕-origin x))
@@ -65,7 +70,8 @@ module _ {top : ℕ} {Live N : PointSet} {S W : Point → ℕ} (g : GridScan top
       forget p q (inr s) = step-in (g .second-in) p q (s .1)
 
   -- the points of the sorted walk must be live, so all that could be among them
-  pub grid-bound : (n : ℕ) (b x : Point) → fold N n b → ((j : ℕ) (y : Point) → j ≤ n → Walk (Step N) j y (x ⊕ b) → Live y) → W x ≤ n + S (x ⊕ b)
+  pub grid-bound : (n : ℕ) (b x : Point) → fold N n b → ((j : ℕ) (y : Point) → j ≤ n → Walk (Step N) j y (x ⊕ b) → Live y)
+      → W x ≤ n + S (x ⊕ b)
   grid-bound n b x h live =
       let (i, j, m, u, d, e) = walk-sort (Step (g .first)) (Step (g .second)) step-swap (walk-map share (fold→walk N n b x h)) in
       let last = walk-map (step-in (g .first-in)) d in

@@ -1,4 +1,5 @@
--- Laws of `look`: in the area it reads the list, elsewhere the value beyond; a change of one place of the list changes one point; and the row rule's partners read it.
+-- Laws of `look`: in the area it reads the list, elsewhere the value beyond; a change of one place of the list changes one point;
+-- and the row rule's partners read it.
 -- Places and points are tied by two equations of naturals, so that omega does the rest.
 use mathlib.Core.Path.{_≡_, refl, sym, _∙_, ap, ap₂, subst}
 use mathlib.Core.Logic.{_⊎_, inl, inr, _≢_}
@@ -31,7 +32,8 @@ pub spot-col : {row col row′ col′ : ℕ} → spot row col ≡ spot row′ co
 spot-col e = pos-inj (ap (λ p. p .col) e)
 
 -- the point that cell k leads to
-partner-spot : (row col k row′ col′ : ℕ) → row + k / 7 ≡ row′ + 3 → col + k % 7 ≡ col′ + 3 → spot row col ⊕ offset k ≡ spot row′ col′
+partner-spot : (row col k row′ col′ : ℕ) → row + k / 7 ≡ row′ + 3 → col + k % 7 ≡ col′ + 3
+    → spot row col ⊕ offset k ≡ spot row′ col′
 partner-spot row col k row′ col′ e f = ap₂ at (diff-sum row (k / 7) 3 row′ e) (diff-sum col (k % 7) 3 col′ f)
 
 pub partner-row : (row col k row′ col′ : ℕ) → spot row col ⊕ offset k ≡ spot row′ col′ → row + k / 7 ≡ row′ + 3
@@ -76,7 +78,8 @@ place-row width row col row′ col′ a b e = order (decLt row row′) (decLt ro
     order (no n) (yes l) = absurd (let g = earlier width row′ col′ row col (inl l) b in omega arith)
     order (no n) (no m) = omega arith
 
-place-apart : (width row col row′ col′ : ℕ) → col < width → col′ < width → spot row col ≢ spot row′ col′ → row * width + col ≢ row′ * width + col′
+place-apart : (width row col row′ col′ : ℕ) → col < width → col′ < width → spot row col ≢ spot row′ col′
+    → row * width + col ≢ row′ * width + col′
 place-apart width row col row′ col′ a b n e =
     let r = place-row width row col row′ col′ a b e in
     let s = ap (λ v. v * width) r in
@@ -84,9 +87,12 @@ place-apart width row col row′ col′ a b n e =
     n (ap₂ spot r c)
 
 module _ (area : Area) (levels : List ℕ) where
-  pub look-inside : (row col : ℕ) → row < area .height → col < area .width → look area levels (spot row col) ≡ getD levels (row * area .width + col) 0
+  pub look-inside : (row col : ℕ) → row < area .height → col < area .width
+      → look area levels (spot row col) ≡ getD levels (row * area .width + col) 0
   unfolding look levelOn
-  look-inside row col a b = cond-true (ltb row (area .height) && ltb col (area .width)) _ _ (both (ltb row (area .height)) (ltb col (area .width)) (lt→ltb row (area .height) a) (lt→ltb col (area .width) b))
+  look-inside row col a b =
+      cond-true (ltb row (area .height) && ltb col (area .width)) _ _
+      (both (ltb row (area .height)) (ltb col (area .width)) (lt→ltb row (area .height) a) (lt→ltb col (area .width) b))
 
   pub look-beyond : (p : Point) → ¬ frame (area .width) (area .height) p → look area levels p ≡ area .beyond
   unfolding look levelOn
@@ -95,14 +101,17 @@ module _ (area : Area) (levels : List ℕ) where
       signs : (r c : ℤ) → ¬ frame (area .width) (area .height) (at r c) → levelOn area levels r c ≡ area .beyond
       signs (pos row) (pos col) out =
           cond-false (ltb row (area .height) && ltb col (area .width)) _ _
-          (λ t. let (a, b) = each (ltb row (area .height)) (ltb col (area .width)) t in out (row, col, ltb→lt row (area .height) a, ltb→lt col (area .width) b, refl))
+          (λ t. let (a, b) = each (ltb row (area .height)) (ltb col (area .width)) t in
+          out (row, col, ltb→lt row (area .height) a, ltb→lt col (area .width) b, refl))
       signs (pos row) (negsuc col) out = refl
       signs (negsuc row) c out = refl
 
   -- a level that stands at all places of a set, and beyond if the set goes beyond
   pub look-all : (B : PointSet) (level : ℕ)
-      → ((row col : ℕ) → row < area .height → col < area .width → B (spot row col) → getD levels (row * area .width + col) 0 ≡ level)
-      → ((x : Point) → ¬ frame (area .width) (area .height) x → B x → area .beyond ≡ level) → (x : Point) → B x → look area levels x ≡ level
+      → ((row col : ℕ) → row < area .height → col < area .width → B (spot row col)
+      → getD levels (row * area .width + col) 0 ≡ level)
+      → ((x : Point) → ¬ frame (area .width) (area .height) x → B x → area .beyond ≡ level) → (x : Point) → B x
+      → look area levels x ≡ level
   look-all B level inside beyond x h = cases (frame-decided (area .width) (area .height) x)
     where
       cases : Dec (frame (area .width) (area .height) x) → look area levels x ≡ level
@@ -126,14 +135,16 @@ module _ (area : Area) (levels : List ℕ) where
       bounds : (n p : ℕ) → T (within n p) → (3 ≤ p) × (p < n + 3)
       bounds n p t = let (a, b) = each (leb 3 p) (ltb p (n + 3)) t in (leb→le 3 p a, ltb→lt p (n + 3) b)
 
-      cases : Dec (frame (area .width) (area .height) (spot row col ⊕ offset k)) → levelAt area levels y x ≡ look area levels (spot row col ⊕ offset k)
+      cases : Dec (frame (area .width) (area .height) (spot row col ⊕ offset k))
+          → levelAt area levels y x ≡ look area levels (spot row col ⊕ offset k)
       cases (yes (r, c, a, b, e)) =
           let f = partner-row row col k r c e in
           let g = partner-col row col k r c e in
           let m : y - 3 ≡ r = omega arith in
           let n : x - 3 ≡ c = omega arith in
           cond-true (within (area .height) y && within (area .width) x) _ _
-          (both (within (area .height) y) (within (area .width) x) (inside (area .height) y (omega arith) (omega arith)) (inside (area .width) x (omega arith) (omega arith)))
+          (both (within (area .height) y) (within (area .width) x) (inside (area .height) y (omega arith) (omega arith))
+          (inside (area .width) x (omega arith) (omega arith)))
           ∙ ap₂ (λ (i j : ℕ). getD levels (i * area .width + j) 0) m n ∙ sym (look-inside r c a b) ∙ ap (look area levels) (sym e)
       cases (no out) =
           cond-false (within (area .height) y && within (area .width) x) _ _
@@ -144,9 +155,11 @@ module _ (area : Area) (levels : List ℕ) where
           out (y - 3, x - 3, omega arith, omega arith, partner-spot row col k (y - 3) (x - 3) (omega arith) (omega arith)))
           ∙ sym (look-beyond (spot row col ⊕ offset k) out)
 
-  pub partner-on : (row col k : ℕ) → cellNumber (area .cells) k ≢ 0 → partner area levels row col k ≡ look area levels (spot row col ⊕ offset k)
+  pub partner-on : (row col k : ℕ) → cellNumber (area .cells) k ≢ 0
+      → partner area levels row col k ≡ look area levels (spot row col ⊕ offset k)
   unfolding partner
-  partner-on row col k n = cond-false (eqb (cellNumber (area .cells) k) 0) _ _ (λ t. n (eqb→eq (cellNumber (area .cells) k) 0 t)) ∙ level-look row col k
+  partner-on row col k n = cond-false (eqb (cellNumber (area .cells) k) 0) _ _ (λ t. n (eqb→eq (cellNumber (area .cells) k) 0 t))
+      ∙ level-look row col k
 
   pub partner-off : (row col k : ℕ) → cellNumber (area .cells) k ≡ 0 → partner area levels row col k ≡ none
   unfolding partner
@@ -154,10 +167,12 @@ module _ (area : Area) (levels : List ℕ) where
 
 -- one place of the list is one point
 module _ (area : Area) (levels : List ℕ) (row col level : ℕ) (b : col < area .width) where
-  pub look-same : row < area .height → length levels ≡ area .height * area .width → look area (set levels (row * area .width + col) level) (spot row col) ≡ level
+  pub look-same : row < area .height → length levels ≡ area .height * area .width
+      → look area (set levels (row * area .width + col) level) (spot row col) ≡ level
   look-same a size =
       let i = place-in (area .width) (area .height) row col a b in
-      look-inside area (set levels (row * area .width + col) level) row col a b ∙ getD-set-same levels (row * area .width + col) level 0 (omega arith)
+      look-inside area (set levels (row * area .width + col) level) row col a b
+      ∙ getD-set-same levels (row * area .width + col) level 0 (omega arith)
 
   pub look-other : (p : Point) → p ≢ spot row col → look area (set levels (row * area .width + col) level) p ≡ look area levels p
   look-other p n = cases (frame-decided (area .width) (area .height) p)
@@ -169,5 +184,6 @@ module _ (area : Area) (levels : List ℕ) (row col level : ℕ) (b : col < area
       cases (no out) = look-beyond area changed p out ∙ sym (look-beyond area levels p out)
       cases (yes (r, c, s, t, e)) =
           ap (look area changed) e ∙ look-inside area changed r c s t
-          ∙ getD-set-other levels (row * area .width + col) (r * area .width + c) level 0 (place-apart (area .width) r c row col t b (λ q. n (e ∙ q)))
+          ∙ getD-set-other levels (row * area .width + col) (r * area .width + c) level 0
+          (place-apart (area .width) r c row col t b (λ q. n (e ∙ q)))
           ∙ sym (look-inside area levels r c s t) ∙ ap (look area levels) (sym e)

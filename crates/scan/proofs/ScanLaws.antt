@@ -1,4 +1,5 @@
--- Small laws of a scan of rows, by induction on the rows: it may be cut anywhere, it keeps the list's length, and it never raises a level.
+-- Small laws of a scan of rows, by induction on the rows: it may be cut anywhere, it keeps the list's length, and it never raises
+-- a level.
 -- The last two are instances of one: what the row rule keeps at every point, a scan keeps.
 use mathlib.Core.Path.{_≡_, refl, sym, ap, _∙_}
 use borrow.Author.Tests.{lt-ltb, le-ltb}
@@ -13,7 +14,8 @@ use Rattle.row.specs.RowRule.{Area, columns, place, pointRule, lowered, rowRule
 use Rattle.scan.specs.Scan.{area, Lent, scanRow, scanRows}
 
 -- a scan of m + n rows is one of m rows and then one of n
-pub rows-add : (area : Area) (done m n : ℕ) (levels : List ℕ) → scanRows area done (m + n) levels ≡ scanRows area (done + m) n (scanRows area done m levels)
+pub rows-add : (area : Area) (done m n : ℕ) (levels : List ℕ)
+    → scanRows area done (m + n) levels ≡ scanRows area (done + m) n (scanRows area done m levels)
 unfolding scanRows
 rows-add area done zero n levels = rw (zero-add, add-zero)
 rows-add area done (suc m) n levels = rw (suc-add, add-suc) (rows-add area (suc done) m n (scanRow area done levels) ∙ rw suc-add)
@@ -25,19 +27,24 @@ place-lt false n k l = l
 place-lt true n k l = omega arith
 
 module _ (P : List ℕ → Type 0) (area : Area)
-    (point : (upward : Bool) (row : ℕ) (levels : List ℕ) (col : ℕ) → (0 < area .height → row < area .height) → col < area .width → P levels → P (pointRule area upward row levels col)) where
-  columns-keep : (upward : Bool) (row t : ℕ) (levels : List ℕ) → (0 < area .height → row < area .height) → t ≤ area .width → P levels → P (columns area upward row t levels)
+    (point : (upward : Bool) (row : ℕ) (levels : List ℕ) (col : ℕ) → (0 < area .height → row < area .height) → col < area .width
+    → P levels → P (pointRule area upward row levels col)) where
+  columns-keep : (upward : Bool) (row t : ℕ) (levels : List ℕ) → (0 < area .height → row < area .height) → t ≤ area .width
+      → P levels → P (columns area upward row t levels)
   unfolding columns
   columns-keep upward row zero levels a b p = p
   columns-keep upward row (suc t) levels a b p =
-      point upward row (columns area upward row t levels) (place upward (area .width) t) a (place-lt upward (area .width) t b) (columns-keep upward row t levels a (omega arith) p)
+      point upward row (columns area upward row t levels) (place upward (area .width) t) a (place-lt upward (area .width) t b)
+      (columns-keep upward row t levels a (omega arith) p)
 
   row-keep : (done : ℕ) (levels : List ℕ) → P levels → P (scanRow area done levels)
   unfolding scanRow rowRule
   row-keep done levels p = cases (ltb done (area .height)) refl
     where
-      cases : (t : Bool) → ltb done (area .height) ≡ t → P (cond t (rowRule area false done levels) (rowRule area true (area .height + area .height - suc done) levels))
-      cases true e = let l = ltb→lt done (area .height) (rw e tt) in columns-keep false done (area .width) levels (λ h. l) (omega arith) p
+      cases : (t : Bool) → ltb done (area .height) ≡ t
+          → P (cond t (rowRule area false done levels) (rowRule area true (area .height + area .height - suc done) levels))
+      cases true e = let l = ltb→lt done (area .height) (rw e tt) in
+          columns-keep false done (area .width) levels (λ h. l) (omega arith) p
       cases false e =
           let l = nltb→le done (area .height) (rw e tt) in
           columns-keep true (area .height + area .height - suc done) (area .width) levels (λ h. omega arith) (omega arith) p
@@ -52,7 +59,8 @@ pub rows-length : (area : Area) (done n : ℕ) (levels : List ℕ) → length (s
 unfolding pointRule
 rows-length area done n levels = rows-keep (λ l. length l ≡ length levels) area point done n levels refl
   where
-    point : (upward : Bool) (row : ℕ) (l : List ℕ) (col : ℕ) → (0 < area .height → row < area .height) → col < area .width → length l ≡ length levels → length (pointRule area upward row l col) ≡ length levels
+    point : (upward : Bool) (row : ℕ) (l : List ℕ) (col : ℕ) → (0 < area .height → row < area .height) → col < area .width
+        → length l ≡ length levels → length (pointRule area upward row l col) ≡ length levels
     point upward row l col a b e = length-set l _ _ ∙ e
 
 set-lower : (levels : List ℕ) (k level i : ℕ) → level ≤ getD levels k 0 → getD (set levels k level) i 0 ≤ getD levels i 0
@@ -66,27 +74,40 @@ pub rows-lower : (area : Area) (done n : ℕ) (levels : List ℕ) (i : ℕ) → 
 unfolding pointRule lowered
 rows-lower area done n levels i = rows-keep (λ l. getD l i 0 ≤ getD levels i 0) area point done n levels (omega arith)
   where
-    point : (upward : Bool) (row : ℕ) (l : List ℕ) (col : ℕ) → (0 < area .height → row < area .height) → col < area .width → getD l i 0 ≤ getD levels i 0 → getD (pointRule area upward row l col) i 0 ≤ getD levels i 0
-    point upward row l col a b h = let g = set-lower l (row * area .width + col) (lowered area upward l row col) i (omega arith) in omega arith
+    point : (upward : Bool) (row : ℕ) (l : List ℕ) (col : ℕ) → (0 < area .height → row < area .height) → col < area .width
+        → getD l i 0 ≤ getD levels i 0 → getD (pointRule area upward row l col) i 0 ≤ getD levels i 0
+    point upward row l col a b h = let g =
+        set-lower l (row * area .width + col) (lowered area upward l row col) i (omega arith) in omega arith
 
 -- the turns of the code's loop: no row yet, and one row more
 pub rows-none : (area : Area) (done : ℕ) (levels : List ℕ) → scanRows area done 0 levels ≡ levels
 unfolding scanRows
 rows-none area done levels = refl
 
-pub rows-more : (area : Area) (done n : ℕ) (levels : List ℕ) → scanRow area (done + n) (scanRows area done n levels) ≡ scanRows area done (n + 1) levels
+pub rows-more : (area : Area) (done n : ℕ) (levels : List ℕ)
+    → scanRow area (done + n) (scanRows area done n levels) ≡ scanRows area done (n + 1) levels
 unfolding scanRows
 rows-more area done n levels = sym (rows-add area done n 1 levels)
 
 -- the row that is due, by the side of the turn
-pub row-down : (area : Area) (done : ℕ) (levels : List ℕ) → done < area .height → scanRow area done levels ≡ rowRule area false done levels
+pub row-down : (area : Area) (done : ℕ) (levels : List ℕ) → done < area .height
+    → scanRow area done levels ≡ rowRule area false done levels
 unfolding scanRow
 row-down area done levels l = rw (lt-ltb done (area .height) l)
 
-pub row-up : (area : Area) (done row : ℕ) (levels : List ℕ) → area .height ≤ done → row ≡ area .height + area .height - 1 - done → scanRow area done levels ≡ rowRule area true row levels
+pub row-up : (area : Area) (done row : ℕ) (levels : List ℕ) → area .height ≤ done → row ≡ area .height + area .height - 1 - done
+    → scanRow area done levels ≡ rowRule area true row levels
 unfolding scanRow
-row-up area done row levels l e = rw (le-ltb done (area .height) l) (ap (λ r. rowRule area true r levels) (let g : area .height + area .height - suc done ≡ row = omega arith in g))
+row-up area done row levels l e =
+    rw (le-ltb done (area .height) l)
+    (ap (λ r. rowRule area true r levels) (let g : area .height + area .height - suc done ≡ row = omega arith in g))
 
 -- levels that were worked are lent as they were
-pub lent-rows : (width height beyond : ℕ) (cells : List (List ℕ)) (done n : ℕ) (levels : List ℕ) → Lent width height levels → Lent width height (scanRows (area width height beyond cells) done n levels)
-lent-rows width height beyond cells done n levels lent = record { wide = lent .wide; high = lent .high; size = rows-length (area width height beyond cells) done n levels ∙ lent .size }
+pub lent-rows : (width height beyond : ℕ) (cells : List (List ℕ)) (done n : ℕ) (levels : List ℕ) → Lent width height levels
+    → Lent width height (scanRows (area width height beyond cells) done n levels)
+lent-rows width height beyond cells done n levels lent =
+    record {
+      wide = lent .wide;
+      high = lent .high;
+      size = rows-length (area width height beyond cells) done n levels ∙ lent .size;
+    }

@@ -1,6 +1,8 @@
 -- The two-pass scan over points of any type.
--- `E x y` says that y is a partner of x that the pass has met before x. After a pass each level is the least of what it was and one more than each met partner's.
--- So a level below the top is reached by a walk to a point that kept its start level (sound, by induction on the level), and no walk does better (bound, by induction on the walk).
+-- `E x y` says that y is a partner of x that the pass has met before x. After a pass each level is the least of what it was and
+-- one more than each met partner's.
+-- So a level below the top is reached by a walk to a point that kept its start level (sound, by induction on the level), and no
+-- walk does better (bound, by induction on the walk).
 -- Where steps commute, every walk can be sorted: first the steps of the second pass, then those of the first.
 use mathlib.Core.Path.{_≡_, refl, ap}
 use mathlib.Core.Logic.{_⊎_, inl, inr}
@@ -26,9 +28,11 @@ module _ {P : Type 0} {E : P → P → Type 0} where
   walk-append (step e w) v = rw suc-add (step e (walk-append w v))
 
   -- a walk all of whose points but the last lie inside
-  pub walk-inside : {In : P → Type 0} {n : ℕ} {x z : P} → ((j : ℕ) (y : P) → j ≤ n → Walk E j y z → In y) → Walk E n x z → Walk (λ p q. In p × E p q) n x z
+  pub walk-inside : {In : P → Type 0} {n : ℕ} {x z : P} → ((j : ℕ) (y : P) → j ≤ n → Walk E j y z → In y) → Walk E n x z
+      → Walk (λ p q. In p × E p q) n x z
   walk-inside f stop = stop
-  walk-inside f (step {n = n} {x = x} e w) = step (f (suc n) x (omega arith) (step e w), e) (walk-inside (λ j y h v. f j y (omega arith) v) w)
+  walk-inside f (step {n = n} {x = x} e w) =
+      step (f (suc n) x (omega arith) (step e w), e) (walk-inside (λ j y h v. f j y (omega arith) v) w)
 
   -- a level that rises by at most one along each step
   walk-bound : (S : P → ℕ) → ((x y : P) → E x y → S x ≤ suc (S y)) → {n : ℕ} {x y : P} → Walk E n x y → S x ≤ n + S y
@@ -45,9 +49,11 @@ module _ {P : Type 0} (D U : P → P → Type 0) (swap : (x y z : P) → D x y �
   pub walk-sort : {n : ℕ} {x z : P} → Walk (Either D U) n x z → (i j : ℕ) × (m : P) × Walk U i x m × Walk D j m z × (i + j ≡ n)
   walk-sort {x = x} stop = (zero, zero, x, stop, stop, refl)
   walk-sort (step (inr u) w) = let r = walk-sort w in (suc (r .0), r .1, r .2, step u (r .3), r .4, rw suc-add (ap suc (r .5)))
-  walk-sort (step (inl d) w) = let r = walk-sort w in let s = push d (r .3) in (r .0, suc (r .1), s .0, s .1, step (s .2) (r .4), rw add-suc (ap suc (r .5)))
+  walk-sort (step (inl d) w) = let r = walk-sort w in let s = push d (r .3) in
+      (r .0, suc (r .1), s .0, s .1, step (s .2) (r .4), rw add-suc (ap suc (r .5)))
 
--- W is what a pass makes of S: the least of the level that a point had and one more than each met partner's; a level from `top` on means none
+-- W is what a pass makes of S: the least of the level that a point had and one more than each met partner's; a level from `top`
+-- on means none
 pub record Pass {P : Type 0} (top : ℕ) (E : P → P → Type 0) (S W : P → ℕ) : Type 0 where
   pub keep : (x : P) → W x ≤ S x
   pub edge : (x y : P) → E x y → W x ≤ suc (W y)

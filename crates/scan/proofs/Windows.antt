@@ -1,4 +1,5 @@
--- A row is worked in a part of the levels as in the whole: the part that begins at row `start` is an area of its own, and the rows before it stay.
+-- A row is worked in a part of the levels as in the whole: the part that begins at row `start` is an area of its own, and the
+-- rows before it stay.
 -- The partners that are met lie in the part or beyond the whole, so they read the same; then the columns go one by one.
 use Prim.Native.Nat.{ℕ, zero, suc, _+_, _-_, _*_, _/_, _%_, _≤_, _<_, min}
 use native.Mathlib.Nat.{add-mul, zero-mul, mul-le-mul, mul-le-mul-right}
@@ -12,14 +13,16 @@ use lib.Dec.{eqb, leb, ltb}
 use lib.ListN.{length, getD, take, drop, set, take-append-drop, length-take, length-drop, drop-of-length-le}
 use lib.Seq.{length-take-le, take-all, getD-append-add}
 use borrow.Author.Tests.{le-leb, lt-ltb, le-ltb, eq-eqb, ne-eqb}
-use Rattle.row.specs.RowRule.{Area, none, more, cellNumber, within, levelAt, partner, least, firstMet, lowered, pointRule, place, columns, rowRule}
+use Rattle.row.specs.RowRule.{Area, none, more, cellNumber, within, levelAt, partner, least, firstMet, lowered, pointRule, place}
+use Rattle.row.specs.RowRule.{columns, rowRule}
 use borrow.Rule.Slice.PartMut.{putMid}
 use Rattle.scan.specs.Scan.{area, Lent, Within, Reaches}
 
 -- a store past the seam
 set-append : (p q : List ℕ) (i v : ℕ) → set (p ++ q) (length p + i) v ≡ p ++ set q i v
 set-append [] q i v = ap (λ n. set q n v) (let e : 0 + i ≡ i = omega arith in e)
-set-append (x ∷ p) q i v = ap (λ n. set (x ∷ (p ++ q)) n v) (let e : length (x ∷ p) + i ≡ suc (length p + i) = omega arith in e) ∙ ap (λ l. x ∷ l) (set-append p q i v)
+set-append (x ∷ p) q i v = ap (λ n. set (x ∷ (p ++ q)) n v) (let e : length (x ∷ p) + i ≡ suc (length p + i) = omega arith in e)
+    ∙ ap (λ l. x ∷ l) (set-append p q i v)
 
 module _ (width height beyond : ℕ) (cells : List (List ℕ)) (start : ℕ) (p q : List ℕ) (front : length p ≡ start * width) where
   abbrev whole : Area
@@ -30,69 +33,112 @@ module _ (width height beyond : ℕ) (cells : List (List ℕ)) (start : ℕ) (p 
 
   -- a place of the whole, counted from the part's first
   place-in : (row col : ℕ) → start ≤ row → row * width + col ≡ length p + ((row - start) * width + col)
-  place-in row col l = let e : start * width + (row - start) * width ≡ row * width = sym (add-mul start (row - start) width) ∙ ap (λ n. n * width) (let g : start + (row - start) ≡ row = omega arith in g) in omega arith
+  place-in row col l = let e : start * width + (row - start) * width ≡ row * width = sym (add-mul start (row - start) width)
+      ∙ ap (λ n. n * width) (let g : start + (row - start) ≡ row = omega arith in g) in omega arith
 
   same-level : (y x : ℕ) → start + 3 ≤ y → levelAt whole (p ++ q) y x ≡ levelAt part q (y - start) x
   unfolding levelAt within
   same-level y x l = go (decLt y (height + 3)) (leb 3 x && ltb x (width + 3))
     where
-      inside : y < height + 3 → (b : Bool) → cond ((leb 3 y && ltb y (height + 3)) && b) (getD (p ++ q) ((y - 3) * width + (x - 3)) 0) beyond ≡ cond ((leb 3 (y - start) && ltb (y - start) (height - start + 3)) && b) (getD q ((y - start - 3) * width + (x - 3)) 0) beyond
+      inside : y < height + 3 → (b : Bool)
+          → cond ((leb 3 y && ltb y (height + 3)) && b) (getD (p ++ q) ((y - 3) * width + (x - 3)) 0) beyond
+          ≡ cond ((leb 3 (y - start) && ltb (y - start) (height - start + 3)) && b)
+          (getD q ((y - start - 3) * width + (x - 3)) 0) beyond
       inside h b =
-          rw (le-leb 3 y (omega arith), lt-ltb y (height + 3) h, le-leb 3 (y - start) (omega arith), lt-ltb (y - start) (height - start + 3) (omega arith))
-          (ap (λ v. cond b v beyond) (ap (λ n. getD (p ++ q) n 0) (place-in (y - 3) (x - 3) (omega arith)) ∙ getD-append-add p q ((y - 3 - start) * width + (x - 3)) 0 ∙ ap (λ n. getD q (n * width + (x - 3)) 0) (let e : y - 3 - start ≡ y - start - 3 = omega arith in e)))
+          rw (
+            le-leb 3 y (omega arith),
+            lt-ltb y (height + 3) h,
+            le-leb 3 (y - start) (omega arith),
+            lt-ltb (y - start) (height - start + 3) (omega arith),
+          )
+          (ap (λ v. cond b v beyond)
+          (ap (λ n. getD (p ++ q) n 0) (place-in (y - 3) (x - 3) (omega arith))
+          ∙ getD-append-add p q ((y - 3 - start) * width + (x - 3)) 0
+          ∙ ap (λ n. getD q (n * width + (x - 3)) 0) (let e : y - 3 - start ≡ y - start - 3 = omega arith in e)))
 
-      outside : height + 3 ≤ y → (b : Bool) → cond ((leb 3 y && ltb y (height + 3)) && b) (getD (p ++ q) ((y - 3) * width + (x - 3)) 0) beyond ≡ cond ((leb 3 (y - start) && ltb (y - start) (height - start + 3)) && b) (getD q ((y - start - 3) * width + (x - 3)) 0) beyond
-      outside h b = rw (le-leb 3 y (omega arith), le-ltb y (height + 3) h, le-leb 3 (y - start) (omega arith), le-ltb (y - start) (height - start + 3) (omega arith))
+      outside : height + 3 ≤ y → (b : Bool)
+          → cond ((leb 3 y && ltb y (height + 3)) && b) (getD (p ++ q) ((y - 3) * width + (x - 3)) 0) beyond
+          ≡ cond ((leb 3 (y - start) && ltb (y - start) (height - start + 3)) && b)
+          (getD q ((y - start - 3) * width + (x - 3)) 0) beyond
+      outside h b = rw (
+        le-leb 3 y (omega arith),
+        le-ltb y (height + 3) h,
+        le-leb 3 (y - start) (omega arith),
+        le-ltb (y - start) (height - start + 3) (omega arith),
+      )
 
-      go : Dec (y < height + 3) → (b : Bool) → cond ((leb 3 y && ltb y (height + 3)) && b) (getD (p ++ q) ((y - 3) * width + (x - 3)) 0) beyond ≡ cond ((leb 3 (y - start) && ltb (y - start) (height - start + 3)) && b) (getD q ((y - start - 3) * width + (x - 3)) 0) beyond
+      go : Dec (y < height + 3) → (b : Bool)
+          → cond ((leb 3 y && ltb y (height + 3)) && b) (getD (p ++ q) ((y - 3) * width + (x - 3)) 0) beyond
+          ≡ cond ((leb 3 (y - start) && ltb (y - start) (height - start + 3)) && b)
+          (getD q ((y - start - 3) * width + (x - 3)) 0) beyond
       go (yes h) b = inside h b
       go (no n) b = outside (omega arith) b
 
   module _ (row : ℕ) (below : start ≤ row) where
-    same-partner : (col k : ℕ) → (cellNumber cells k ≢ 0 → start + 3 ≤ row + k / 7) → partner whole (p ++ q) row col k ≡ partner part q (row - start) col k
+    same-partner : (col k : ℕ) → (cellNumber cells k ≢ 0 → start + 3 ≤ row + k / 7)
+        → partner whole (p ++ q) row col k ≡ partner part q (row - start) col k
     unfolding partner
     same-partner col k met = go (ℕ-discrete (cellNumber cells k) 0)
       where
-        go : Dec (cellNumber cells k ≡ 0) → cond (eqb (cellNumber cells k) 0) none (levelAt whole (p ++ q) (row + k / 7) (col + k % 7)) ≡ cond (eqb (cellNumber cells k) 0) none (levelAt part q (row - start + k / 7) (col + k % 7))
+        go : Dec (cellNumber cells k ≡ 0)
+            → cond (eqb (cellNumber cells k) 0) none (levelAt whole (p ++ q) (row + k / 7) (col + k % 7))
+            ≡ cond (eqb (cellNumber cells k) 0) none (levelAt part q (row - start + k / 7) (col + k % 7))
         go (yes z) = rw (eq-eqb (cellNumber cells k) 0 z)
         go (no n) =
             rw (ne-eqb (cellNumber cells k) 0 n)
-            (same-level (row + k / 7) (col + k % 7) (met n) ∙ ap (λ y. levelAt part q y (col + k % 7)) (let e : row + k / 7 - start ≡ row - start + k / 7 = omega arith in e))
+            (same-level (row + k / 7) (col + k % 7) (met n)
+            ∙ ap (λ y. levelAt part q y (col + k % 7)) (let e : row + k / 7 - start ≡ row - start + k / 7 = omega arith in e))
 
-    same-least : (col k n : ℕ) → ((i : ℕ) → k ≤ i → i < k + n → cellNumber cells i ≢ 0 → start + 3 ≤ row + i / 7) → least whole (p ++ q) row col k n ≡ least part q (row - start) col k n
+    same-least : (col k n : ℕ) → ((i : ℕ) → k ≤ i → i < k + n → cellNumber cells i ≢ 0 → start + 3 ≤ row + i / 7)
+        → least whole (p ++ q) row col k n ≡ least part q (row - start) col k n
     unfolding least
     same-least col k zero met = refl
-    same-least col k (suc n) met = ap₂ min (same-partner col k (met k (omega arith) (omega arith))) (same-least col (suc k) n (λ i a b. met i (omega arith) (omega arith)))
+    same-least col k (suc n) met =
+        ap₂ min (same-partner col k (met k (omega arith) (omega arith)))
+        (same-least col (suc k) n (λ i a b. met i (omega arith) (omega arith)))
 
-    same-point : (upward : Bool) (col : ℕ) → ((i : ℕ) → firstMet upward ≤ i → i < firstMet upward + 24 → cellNumber cells i ≢ 0 → start + 3 ≤ row + i / 7) → pointRule whole upward row (p ++ q) col ≡ p ++ pointRule part upward (row - start) q col
+    same-point : (upward : Bool) (col : ℕ)
+        → ((i : ℕ) → firstMet upward ≤ i → i < firstMet upward + 24 → cellNumber cells i ≢ 0 → start + 3 ≤ row + i / 7)
+        → pointRule whole upward row (p ++ q) col ≡ p ++ pointRule part upward (row - start) q col
     unfolding pointRule lowered
     same-point upward col met =
         ap₂ (λ n v. set (p ++ q) n v) (place-in row col below)
-        (ap₂ (λ a b. min a (more b)) (ap (λ n. getD (p ++ q) n 0) (place-in row col below) ∙ getD-append-add p q ((row - start) * width + col) 0) (same-least col (firstMet upward) 24 met))
+        (ap₂ (λ a b. min a (more b))
+        (ap (λ n. getD (p ++ q) n 0) (place-in row col below) ∙ getD-append-add p q ((row - start) * width + col) 0)
+        (same-least col (firstMet upward) 24 met))
         ∙ set-append p q ((row - start) * width + col) (lowered part upward q (row - start) col)
 
 module _ (width height beyond : ℕ) (cells : List (List ℕ)) (upward : Bool) (start row : ℕ) (below : start ≤ row)
-    (met : (i : ℕ) → firstMet upward ≤ i → i < firstMet upward + 24 → cellNumber cells i ≢ 0 → start + 3 ≤ row + i / 7) (p q : List ℕ) (front : length p ≡ start * width) where
-  same-columns : (t : ℕ) → columns (record { width = width; height = height; beyond = beyond; cells = cells }) upward row t (p ++ q) ≡ p ++ columns (record { width = width; height = height - start; beyond = beyond; cells = cells }) upward (row - start) t q
+    (met : (i : ℕ) → firstMet upward ≤ i → i < firstMet upward + 24 → cellNumber cells i ≢ 0 → start + 3 ≤ row + i / 7)
+    (p q : List ℕ) (front : length p ≡ start * width) where
+  same-columns : (t : ℕ) → columns (record { width = width; height = height; beyond = beyond; cells = cells }) upward row t
+      (p ++ q) ≡ p ++ columns (record { width = width; height = height - start; beyond = beyond; cells = cells }) upward
+      (row - start) t q
   unfolding columns
   same-columns zero = refl
   same-columns (suc t) =
-      ap (λ l. pointRule (record { width = width; height = height; beyond = beyond; cells = cells }) upward row l (place upward width t)) (same-columns t)
-      ∙ same-point width height beyond cells start p (columns (record { width = width; height = height - start; beyond = beyond; cells = cells }) upward (row - start) t q) front row below upward (place upward width t) met
+      ap (λ l. pointRule (record { width = width; height = height; beyond = beyond; cells = cells }) upward row l
+      (place upward width t)) (same-columns t)
+      ∙ same-point width height beyond cells start p
+      (columns (record { width = width; height = height - start; beyond = beyond; cells = cells }) upward
+      (row - start) t q) front row below upward (place upward width t) met
 
   -- THE WINDOW LAW
-  pub row-in-part : rowRule (record { width = width; height = height; beyond = beyond; cells = cells }) upward row (p ++ q) ≡ p ++ rowRule (record { width = width; height = height - start; beyond = beyond; cells = cells }) upward (row - start) q
+  pub row-in-part : rowRule (record { width = width; height = height; beyond = beyond; cells = cells }) upward row (p ++ q) ≡ p ++
+      rowRule (record { width = width; height = height - start; beyond = beyond; cells = cells }) upward (row - start) q
   unfolding rowRule
   row-in-part = same-columns width
 
 -- a part that begins at a row is in the levels, and is an area of the rows from there on
 module _ (width height start : ℕ) (levels : List ℕ) (lent : Lent width height levels) (above : start < height) where
   pub start-place : start * width ≤ length levels
-  start-place = let h : start * width ≤ height * width = mul-le-mul-right width (let l : start ≤ height = omega arith in l) in let s = lent .size in omega arith
+  start-place = let h : start * width ≤ height * width = mul-le-mul-right width (let l : start ≤ height = omega arith in l) in
+      let s = lent .size in omega arith
 
   pub part-size : length (take (length levels - start * width) (drop (start * width) levels)) ≡ (height - start) * width
   part-size =
-      let e : start * width + (height - start) * width ≡ height * width = sym (add-mul start (height - start) width) ∙ ap (λ n. n * width) (let g : start + (height - start) ≡ height = omega arith in g) in
+      let e : start * width + (height - start) * width ≡ height * width = sym (add-mul start (height - start) width)
+      ∙ ap (λ n. n * width) (let g : start + (height - start) ≡ height = omega arith in g) in
       let s = lent .size in
       let d = length-drop (start * width) levels in
       let t = length-take (length levels - start * width) (drop (start * width) levels) in
@@ -101,11 +147,13 @@ module _ (width height start : ℕ) (levels : List ℕ) (lent : Lent width heigh
 -- the whole, as what stands before the part and the part
 module _ (width height beyond : ℕ) (cells : List (List ℕ)) (upward : Bool) (start row : ℕ) (levels : List ℕ)
     (lent : Lent width height levels) (below : start ≤ row) (inside : row < height) (holds : Within upward start row cells) where
-  pub row-of-part : rowRule (area width height beyond cells) upward row levels ≡ take (start * width) levels ++ rowRule (area width (height - start) beyond cells) upward (row - start) (drop (start * width) levels)
+  pub row-of-part : rowRule (area width height beyond cells) upward row levels ≡ take (start * width) levels ++
+      rowRule (area width (height - start) beyond cells) upward (row - start) (drop (start * width) levels)
   row-of-part = go (ℕ-discrete start 0)
     where
       first : ℕ → List ℕ
-      first n = take (n * width) levels ++ rowRule (area width (height - n) beyond cells) upward (row - n) (drop (n * width) levels)
+      first n = take (n * width) levels ++
+          rowRule (area width (height - n) beyond cells) upward (row - n) (drop (n * width) levels)
 
       none-before : rowRule (area width height beyond cells) upward row levels ≡ first 0
       none-before =
@@ -118,7 +166,9 @@ module _ (width height beyond : ℕ) (cells : List (List ℕ)) (upward : Bool) (
       go (yes z) = rw z none-before
       go (no n) =
           ap (rowRule (area width height beyond cells) upward row) (sym (take-append-drop (start * width) levels))
-          ∙ row-in-part width height beyond cells upward start row below (λ i a b c. later (holds .met i a b c)) (take (start * width) levels) (drop (start * width) levels) (length-take-le (start * width) levels (start-place width height start levels lent (omega arith)))
+          ∙ row-in-part width height beyond cells upward start row below (λ i a b c. later (holds .met i a b c))
+          (take (start * width) levels) (drop (start * width) levels)
+          (length-take-le (start * width) levels (start-place width height start levels lent (omega arith)))
         where
           later : {m : ℕ} → (start ≡ 0) ⊎ (start + 3 ≤ m) → start + 3 ≤ m
           later (inl z) = absurd (n z)
@@ -138,12 +188,17 @@ down-within reach row cells r = record { met = λ k a b c. go k (r .above k (ome
     go k h (no n) = inr (omega arith)
 
 -- small enough for a machine's word
-pub place-small : (width height start : ℕ) (levels : List ℕ) → Lent width height levels → start < height → start * width ≤ 4096 * 4096
-place-small width height start levels lent l = mul-le-mul (let h = lent .high in let s : start ≤ 4096 = omega arith in s) (lent .wide .1)
+pub place-small : (width height start : ℕ) (levels : List ℕ) → Lent width height levels → start < height
+    → start * width ≤ 4096 * 4096
+place-small width height start levels lent l =
+    mul-le-mul (let h = lent .high in let s : start ≤ 4096 = omega arith in s) (lent .wide .1)
 
 -- what was lent from a place on comes back in its place
-pub lent-part : (at : ℕ) (levels after : List ℕ) (f : List ℕ → List ℕ) → after ≡ f (take (length levels - at) (drop at levels)) → putMid at (length levels - at) levels after ≡ take at levels ++ f (drop at levels)
+pub lent-part : (at : ℕ) (levels after : List ℕ) (f : List ℕ → List ℕ) → after ≡ f (take (length levels - at) (drop at levels))
+    → putMid at (length levels - at) levels after ≡ take at levels ++ f (drop at levels)
 lent-part at levels after f e =
-    let nothing : drop (length levels - at) (drop at levels) ≡ [] = drop-of-length-le (drop at levels) {i = length levels - at} (let d = length-drop at levels in omega arith) in
-    let all : take (length levels - at) (drop at levels) ≡ drop at levels = take-all (length levels - at) (drop at levels) (let d = length-drop at levels in omega arith) in
+    let nothing : drop (length levels - at) (drop at levels) ≡ [] =
+    drop-of-length-le (drop at levels) {i = length levels - at} (let d = length-drop at levels in omega arith) in
+    let all : take (length levels - at) (drop at levels) ≡ drop at levels =
+    take-all (length levels - at) (drop at levels) (let d = length-drop at levels in omega arith) in
     rw (nothing, append-nil, e, all)

@@ -1,4 +1,5 @@
--- How the lists that are worked on are read on the infinite grid: levels as a function of points, cells as a set of offsets, and a level cut at a cap.
+-- How the lists that are worked on are read on the infinite grid: levels as a function of points, cells as a set of offsets, and
+-- a level cut at a cap.
 use mathlib.Core.Path.{_≡_}
 use mathlib.Core.Logic.{_≢_}
 use mathlib.Core.Bool.{cond, _&&_}
@@ -18,7 +19,8 @@ fullScan area levels = scanRows area 0 (area .height + area .height) levels
 
 -- the level at a point: in the area what the list holds, elsewhere what the area reads beyond
 unfoldable pub levelOn : Area → List ℕ → ℤ → ℤ → ℕ
-levelOn area levels (pos row) (pos col) = cond (ltb row (area .height) && ltb col (area .width)) (getD levels (row * area .width + col) 0) (area .beyond)
+levelOn area levels (pos row) (pos col) =
+    cond (ltb row (area .height) && ltb col (area .width)) (getD levels (row * area .width + col) 0) (area .beyond)
 levelOn area levels (pos row) (negsuc col) = area .beyond
 levelOn area levels (negsuc row) col = area .beyond
 

@@ -11,7 +11,8 @@ use Rattle.row.specs.RowRule.{Area, cellNumber, firstMet, rowRule}
 -- the row that is worked after `done` rows
 unfoldable pub scanRow : Area → ℕ → List ℕ → List ℕ
 scanRow area done levels =
-    cond (ltb done (area .height)) (rowRule area false done levels) (rowRule area true (area .height + area .height - suc done) levels)
+    cond (ltb done (area .height)) (rowRule area false done levels)
+    (rowRule area true (area .height + area .height - suc done) levels)
 
 -- n rows, after `done` rows
 unfoldable pub scanRows : Area → ℕ → ℕ → List ℕ → List ℕ
@@ -29,7 +30,8 @@ pub record Lent (width height : ℕ) (levels : List ℕ) : Type 0 where
 
 -- every partner met of a row lies in the part that begins at row `start`, or beyond the area
 pub record Within (upward : Bool) (start row : ℕ) (cells : List (List ℕ)) : Type 0 where
-  pub met : (k : ℕ) → firstMet upward ≤ k → k < firstMet upward + 24 → cellNumber cells k ≢ 0 → (start ≡ 0) ⊎ (start + 3 ≤ row + k / 7)
+  pub met : (k : ℕ) → firstMet upward ≤ k → k < firstMet upward + 24 → cellNumber cells k ≢ 0
+      → (start ≡ 0) ⊎ (start + 3 ≤ row + k / 7)
 
 pub record Reaches (reach : ℕ) (cells : List (List ℕ)) : Type 0 where
   pub above : (k : ℕ) → k < 49 → cellNumber cells k ≢ 0 → 3 ≤ k / 7 + reach

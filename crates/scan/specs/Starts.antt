@@ -24,14 +24,17 @@ pub record ErosionStart (area : Area) (A K : PointSet) (start : List ℕ) : Type
   pub decide : (x : Point) → Dec (A x)
   pub inside : A ⊆ frame (area .width) (area .height)
   pub size : length start ≡ area .height * area .width
-  pub on : (row col : ℕ) → row < area .height → col < area .width → A (at (pos row) (pos col)) → getD start (row * area .width + col) 0 ≡ none
-  pub off : (row col : ℕ) → row < area .height → col < area .width → ¬ A (at (pos row) (pos col)) → getD start (row * area .width + col) 0 ≡ 0
+  pub on : (row col : ℕ) → row < area .height → col < area .width → A (at (pos row) (pos col))
+      → getD start (row * area .width + col) 0 ≡ none
+  pub off : (row col : ℕ) → row < area .height → col < area .width → ¬ A (at (pos row) (pos col))
+      → getD start (row * area .width + col) 0 ≡ 0
 
 -- the point of the grid at a row and a column of a canvas with a margin
 abbrev pub onCanvas : ℕ → ℕ → ℕ → Point
 onCanvas margin row col = at (pos row -ℤ pos margin) (pos col -ℤ pos margin)
 
--- A dilation up to the cap R is worked on a canvas: the frame with a margin of R times the reach r of K on each side. It starts with 1 on A and 65,535 elsewhere and beyond. The partners are K turned about.
+-- A dilation up to the cap R is worked on a canvas: the frame with a margin of R times the reach r of K on each side. It starts
+-- with 1 on A and 65,535 elsewhere and beyond. The partners are K turned about.
 pub record DilationStart (area : Area) (width height R r : ℕ) (A K : PointSet) (start : List ℕ) : Type 0 where
   pub canvas-width : area .width ≡ width + 2 * (R * r)
   pub canvas-height : area .height ≡ height + 2 * (R * r)
@@ -43,5 +46,7 @@ pub record DilationStart (area : Area) (width height R r : ℕ) (A K : PointSet)
   pub decide : (x : Point) → Dec (A x)
   pub inside : A ⊆ frame width height
   pub size : length start ≡ area .height * area .width
-  pub on : (row col : ℕ) → row < area .height → col < area .width → A (onCanvas (R * r) row col) → getD start (row * area .width + col) 0 ≡ 1
-  pub off : (row col : ℕ) → row < area .height → col < area .width → ¬ A (onCanvas (R * r) row col) → getD start (row * area .width + col) 0 ≡ none
+  pub on : (row col : ℕ) → row < area .height → col < area .width → A (onCanvas (R * r) row col)
+      → getD start (row * area .width + col) 0 ≡ 1
+  pub off : (row col : ℕ) → row < area .height → col < area .width → ¬ A (onCanvas (R * r) row col)
+      → getD start (row * area .width + col) 0 ≡ none

@@ -38,7 +38,8 @@ fn lesser(a: usize, b: usize) -> usize
     if a < b { a } else { b }
 }
 
-// The row that is due after `done` rows: on the upward scan in the part that begins at that row; on the downward scan in the part that begins `reach` rows higher, or at row 0 where there are fewer.
+// The row that is due after `done` rows: on the upward scan in the part that begins at that row; on the downward scan in the part
+// that begins `reach` rows higher, or at row 0 where there are fewer.
 fn scan_row(
     levels: &mut [u16],
     width: usize,

@@ -45,7 +45,8 @@ module _ (width height : ℕ) where
   pub frame-sides : first (frameRefusals width height) ≡ 0 → ((1 ≤ width) × (width ≤ 4096)) × ((1 ≤ height) × (height ≤ 4096))
   frame-sides e = go (isSideOut width) (isSideOut height) refl refl e
     where
-      go : (a b : Bool) → isSideOut width ≡ a → isSideOut height ≡ b → first ((2, a || b) ∷ []) ≡ 0 → ((1 ≤ width) × (width ≤ 4096)) × ((1 ≤ height) × (height ≤ 4096))
+      go : (a b : Bool) → isSideOut width ≡ a → isSideOut height ≡ b → first ((2, a || b) ∷ []) ≡ 0
+          → ((1 ≤ width) × (width ≤ 4096)) × ((1 ≤ height) × (height ≤ 4096))
       go false false p q r = (side-in width p, side-in height q)
       go false true p q r = absurd (omega arith)
       go true b p q r = absurd (omega arith)
@@ -55,21 +56,30 @@ module _ (width height : ℕ) where
   raster-small a b = mul-le-mul b (let l : rowBytes width ≤ 512 = omega arith in l)
 
   module _ (bytes : List ℕ) where
-    pub refuse-frame : (number : ℕ) → number ≢ 0 → number ≡ first (frameRefusals width height) → number ≡ first (sheetRefusals width height bytes)
-    refuse-frame number n e = e ∙ sym (first-refused (frameRefusals width height) ((3, not (eqb (length bytes) (height * rowBytes width))) ∷ []) (λ z. n (e ∙ z)))
+    pub refuse-frame : (number : ℕ) → number ≢ 0 → number ≡ first (frameRefusals width height)
+        → number ≡ first (sheetRefusals width height bytes)
+    refuse-frame number n e = e
+        ∙ sym (first-refused (frameRefusals width height) ((3, not (eqb (length bytes) (height * rowBytes width))) ∷ [])
+        (λ z. n (e ∙ z)))
 
     module _ (f : first (frameRefusals width height) ≡ 0) where
       pub refuse-bytes : length bytes ≢ height * rowBytes width → 3 ≡ first (sheetRefusals width height bytes)
-      refuse-bytes n = sym (first-accepted (frameRefusals width height) ((3, not (eqb (length bytes) (height * rowBytes width))) ∷ []) tt f ∙ rw (ne-eqb (length bytes) (height * rowBytes width) n))
+      refuse-bytes n = sym (first-accepted (frameRefusals width height)
+          ((3, not (eqb (length bytes) (height * rowBytes width))) ∷ []) tt f
+          ∙ rw (ne-eqb (length bytes) (height * rowBytes width) n))
 
       pub accept-sheet : length bytes ≡ height * rowBytes width → 0 ≡ first (sheetRefusals width height bytes)
-      accept-sheet e = sym (first-accepted (frameRefusals width height) ((3, not (eqb (length bytes) (height * rowBytes width))) ∷ []) tt f ∙ rw (eq-eqb (length bytes) (height * rowBytes width) e))
+      accept-sheet e = sym (first-accepted (frameRefusals width height)
+          ((3, not (eqb (length bytes) (height * rowBytes width))) ∷ []) tt f
+          ∙ rw (eq-eqb (length bytes) (height * rowBytes width) e))
 
     -- an accepted sheet has an accepted frame and its bytes
-    pub sheet-accepted : first (sheetRefusals width height bytes) ≡ 0 → (first (frameRefusals width height) ≡ 0) × (length bytes ≡ height * rowBytes width)
+    pub sheet-accepted : first (sheetRefusals width height bytes) ≡ 0
+        → (first (frameRefusals width height) ≡ 0) × (length bytes ≡ height * rowBytes width)
     sheet-accepted e = go (isSideOut width || isSideOut height) (eqb (length bytes) (height * rowBytes width)) refl refl e
       where
-        go : (a b : Bool) → isSideOut width || isSideOut height ≡ a → eqb (length bytes) (height * rowBytes width) ≡ b → first ((2, a) ∷ (3, not b) ∷ []) ≡ 0
+        go : (a b : Bool) → isSideOut width || isSideOut height ≡ a → eqb (length bytes) (height * rowBytes width) ≡ b
+            → first ((2, a) ∷ (3, not b) ∷ []) ≡ 0
             → (first (frameRefusals width height) ≡ 0) × (length bytes ≡ height * rowBytes width)
         go false true p q r = (rw p, eqb-true (length bytes) (height * rowBytes width) q)
         go false false p q r = absurd (omega arith)

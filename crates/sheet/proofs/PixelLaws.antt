@@ -1,5 +1,6 @@
 -- Pixels: where they stand, that a packed sheet has the pixels it was packed from, and that nothing but its pixels is in it.
--- A packed byte is a sum of eight bits by their weights, so each bit is found by dividing by its weight; omega does each of the eight places.
+-- A packed byte is a sum of eight bits by their weights, so each bit is found by dividing by its weight; omega does each of the
+-- eight places.
 use Prim.Native.Nat.{ℕ, zero, suc, _+_, _*_, _/_, _%_, _≤_, _<_}
 use native.Mathlib.Nat.{mul-le-mul}
 use native.Mathlib.Omega.{arith}
@@ -24,14 +25,18 @@ unfolding pixel
 pixel-binary width bytes row col = omega arith
 
 -- PADDING IS NEVER READ: sheets with the same pixels in the frame mean the same set
-pub padding-ignored : (width height : ℕ) (bytes bytes′ : List ℕ) → ((row col : ℕ) → row < height → col < width → pixel width bytes row col ≡ pixel width bytes′ row col) → foreground width height bytes ⊆ foreground width height bytes′
-padding-ignored width height bytes bytes′ same = figure-same width height (pixel width bytes) (pixel width bytes′) (λ row col a b v. sym (same row col a b) ∙ v)
+pub padding-ignored : (width height : ℕ) (bytes bytes′ : List ℕ)
+    → ((row col : ℕ) → row < height → col < width → pixel width bytes row col ≡ pixel width bytes′ row col)
+    → foreground width height bytes ⊆ foreground width height bytes′
+padding-ignored width height bytes bytes′ same =
+    figure-same width height (pixel width bytes) (pixel width bytes′) (λ row col a b v. sym (same row col a b) ∙ v)
 
 -- the eight bits of a weighted sum
 sum-bit : (a b c d e f g h : ℕ) → a ≤ 1 → b ≤ 1 → c ≤ 1 → d ≤ 1 → e ≤ 1 → f ≤ 1 → g ≤ 1 → h ≤ 1
     → let s = 128 * a + 64 * b + 32 * c + 16 * d + 8 * e + 4 * f + 2 * g + h in
     (bit s 0 ≡ a) × (bit s 1 ≡ b) × (bit s 2 ≡ c) × (bit s 3 ≡ d) × (bit s 4 ≡ e) × (bit s 5 ≡ f) × (bit s 6 ≡ g) × (bit s 7 ≡ h)
-sum-bit a b c d e f g h p q r s t u v w = (omega arith, omega arith, omega arith, omega arith, omega arith, omega arith, omega arith, omega arith)
+sum-bit a b c d e f g h p q r s t u v w =
+    (omega arith, omega arith, omega arith, omega arith, omega arith, omega arith, omega arith, omega arith)
 
 -- one of eight
 eight : (P : ℕ → Type 0) → P 0 → P 1 → P 2 → P 3 → P 4 → P 5 → P 6 → P 7 → (i : ℕ) → i < 8 → P i
@@ -61,7 +66,8 @@ module _ (width : ℕ) (pixels : ℕ → ℕ) (binary : (col : ℕ) → col < wi
   bit-packed : (k i : ℕ) → i < 8 → bit (packedByte width pixels k) i ≡ bitOf k i
   unfolding packedByte bitOf
   bit-packed k i l =
-      let s = sum-bit (bitOf k 0) (bitOf k 1) (bitOf k 2) (bitOf k 3) (bitOf k 4) (bitOf k 5) (bitOf k 6) (bitOf k 7) (small k 0) (small k 1) (small k 2) (small k 3) (small k 4) (small k 5) (small k 6) (small k 7) in
+      let s = sum-bit (bitOf k 0) (bitOf k 1) (bitOf k 2) (bitOf k 3) (bitOf k 4) (bitOf k 5) (bitOf k 6) (bitOf k 7) (small k 0)
+      (small k 1) (small k 2) (small k 3) (small k 4) (small k 5) (small k 6) (small k 7) in
       eight (λ i. bit (packedByte width pixels k) i ≡ bitOf k i) (s .0) (s .1) (s .2) (s .3) (s .4) (s .5) (s .6) (s .7) i l
 
   bit-at : (col : ℕ) → col < width → bitOf (col / 8) (col % 8) ≡ pixels col
@@ -74,16 +80,21 @@ module _ (width height : ℕ) (pixels : ℕ → ℕ → ℕ) where
   length-packed = length-raster (rowBytes width) height (λ row k. packedByte width (pixels row) k)
 
   -- A PACKED SHEET HAS THE PIXELS IT WAS PACKED FROM
-  pub pixel-packed : ((row col : ℕ) → row < height → col < width → pixels row col ≤ 1) → (row col : ℕ) → row < height → col < width → pixel width (packed width height pixels) row col ≡ pixels row col
+  pub pixel-packed : ((row col : ℕ) → row < height → col < width → pixels row col ≤ 1) → (row col : ℕ) → row < height
+      → col < width → pixel width (packed width height pixels) row col ≡ pixels row col
   unfolding pixel packed
   pixel-packed binary row col a b =
-      ap (λ byte. bit byte (col % 8)) (getD-raster (rowBytes width) height (λ row k. packedByte width (pixels row) k) row (col / 8) 0 a (omega arith))
+      ap (λ byte. bit byte (col % 8))
+      (getD-raster (rowBytes width) height (λ row k. packedByte width (pixels row) k) row (col / 8) 0 a (omega arith))
       ∙ bit-packed width (pixels row) (λ c l. binary row c a l) (col / 8) (col % 8) (omega arith)
       ∙ bit-at width (pixels row) (λ c l. binary row c a l) col b
 
   -- and so means the set that they draw
-  pub packed-means : ((row col : ℕ) → row < height → col < width → pixels row col ≤ 1) → foreground width height (packed width height pixels) ≈ figure width height pixels
+  pub packed-means : ((row col : ℕ) → row < height → col < width → pixels row col ≤ 1)
+      → foreground width height (packed width height pixels) ≈ figure width height pixels
   packed-means binary = (
-    figure-same width height (pixel width (packed width height pixels)) pixels (λ row col a b v. sym (pixel-packed binary row col a b) ∙ v),
-    figure-same width height pixels (pixel width (packed width height pixels)) (λ row col a b v. pixel-packed binary row col a b ∙ v),
+    figure-same width height (pixel width (packed width height pixels)) pixels
+        (λ row col a b v. sym (pixel-packed binary row col a b) ∙ v),
+    figure-same width height pixels (pixel width (packed width height pixels))
+        (λ row col a b v. pixel-packed binary row col a b ∙ v),
   )

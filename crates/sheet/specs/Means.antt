@@ -11,8 +11,10 @@ use Rattle.sheet.specs.Sheets.{pixel}
 
 -- levels, row by row: each is the level of its point
 abbrev pub LevelsMean : ℕ → ℕ → (Point → ℕ → Type 0) → List ℕ → Type 0
-LevelsMean width height IsLevel levels = (row col : ℕ) → row < height → col < width → IsLevel (at (pos row) (pos col)) (getD levels (row * width + col) 0)
+LevelsMean width height IsLevel levels = (row col : ℕ) → row < height → col < width
+    → IsLevel (at (pos row) (pos col)) (getD levels (row * width + col) 0)
 
 -- a packed sheet: its pixels are 1 exactly at the points of the set
 abbrev pub SheetMeans : ℕ → ℕ → PointSet → List ℕ → Type 0
-SheetMeans width height A sheet = (row col : ℕ) → row < height → col < width → (pixel width sheet row col ≡ 1) ↔ A (at (pos row) (pos col))
+SheetMeans width height A sheet = (row col : ℕ) → row < height → col < width
+    → (pixel width sheet row col ≡ 1) ↔ A (at (pos row) (pos col))

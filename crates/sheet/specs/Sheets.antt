@@ -1,4 +1,5 @@
--- A sheet in memory is the PBM raster: rows top to bottom, each padded to a byte, leftmost pixel in the highest bit, 1 foreground.
+-- A sheet in memory is the PBM raster: rows top to bottom, each padded to a byte, leftmost pixel in the highest bit, 1
+-- foreground.
 use Prim.Native.Nat.{ℕ, _+_, _-_, _*_, _/_, _%_, _^_}
 use mathlib.Core.Bool.{Bool, not, cond, _||_}
 use mathlib.Core.List.{List, [], _∷_, _++_}

@@ -14,7 +14,8 @@ pub record Copying (text : List ℕ) (at : ℕ) (buffer : List ℕ) (i : ℕ) (o
   pub size : length out ≡ length buffer
   pub copied : out ≡ paste buffer at text i
 
-pub copying-start : (text : List ℕ) (at : ℕ) (buffer : List ℕ) → at + length text ≤ length buffer → Copying text at buffer 0 buffer
+pub copying-start : (text : List ℕ) (at : ℕ) (buffer : List ℕ) → at + length text ≤ length buffer
+    → Copying text at buffer 0 buffer
 copying-start text at buffer l = record { within = omega arith; room = l; size = refl; copied = paste-zero buffer at text }
 
 module _ {text : List ℕ} {at : ℕ} {buffer : List ℕ} {i : ℕ} {out : List ℕ} (h : Copying text at buffer i out) where
@@ -25,7 +26,8 @@ module _ {text : List ℕ} {at : ℕ} {buffer : List ℕ} {i : ℕ} {out : List 
         within = omega arith;
         room = h .room;
         size = length-set out (at + i) (getD text i 0) ∙ h .size;
-        copied = ap (λ o. set o (at + i) (getD text i 0)) (h .copied) ∙ paste-suc buffer at text i 0 (omega arith) l ∙ ap (λ n. paste buffer at text n) (sym (add-one i));
+        copied = ap (λ o. set o (at + i) (getD text i 0)) (h .copied) ∙ paste-suc buffer at text i 0 (omega arith) l
+            ∙ ap (λ n. paste buffer at text n) (sym (add-one i));
       }
 
   pub copying-end : length text ≤ i → Wrote text at buffer out (at + i)
@@ -33,5 +35,6 @@ module _ {text : List ℕ} {at : ℕ} {buffer : List ℕ} {i : ℕ} {out : List 
       let w = h .within in
       let e : i ≡ length text = omega arith in
       let f : paste buffer at text i ≡ placed text at buffer =
-      append-assoc (take at buffer) (take i text) (drop (at + i) buffer) ∙ ap₂ (λ front n. take at buffer ++ (front ++ drop (at + n) buffer)) (take-all i text l) e in
+      append-assoc (take at buffer) (take i text) (drop (at + i) buffer)
+      ∙ ap₂ (λ front n. take at buffer ++ (front ++ drop (at + n) buffer)) (take-all i text l) e in
       record { place = ap (λ n. at + n) e; stands = h .copied ∙ f }

@@ -38,7 +38,8 @@ pub fn write_pair(
     at: usize,
 ) -> usize
     requires { ⌜ at + length ((now before ++ digits first) ++ (now between ++ digits second)) ≤ length (now out) ⌝ }
-    ensures { λ r. ⌜ Wrote ((now (before .entry) ++ digits first) ++ (now (between .entry) ++ digits second)) at (now (out .entry)) (now (out .exit)) r ⌝ }
+    ensures { λ r. ⌜ Wrote ((now (before .entry) ++ digits first) ++ (now (between .entry) ++ digits second)) at
+        (now (out .entry)) (now (out .exit)) r ⌝ }
 {
     let next = write_labelled(before, first, out, at);
     write_labelled(between, second, out, next)

@@ -18,12 +18,6 @@ abbrev μ-loop : tie.MeasureT-loop
 loop-holds : tie.Need-loop-holds Inv-loop μ-loop
 loop-holds c = reading-start (c .before .args .file .now) (c .before .args .at) (c .before .args .limit) (c .before .pre .0)
 
-shared-slice-read-byte : tie.Need-shared-slice-read-byte Inv-loop μ-loop
-shared-slice-read-byte c = search needs
-
-is-digit-requires : tie.Need-is-digit-requires Inv-loop μ-loop
-is-digit-requires c κs = search needs
-
 returns : tie.Need-returns Inv-loop μ-loop
 returns c =
     let loop = c .before .before .before .before .loop in
@@ -31,10 +25,10 @@ returns c =
     reading-stop (loop .inv) (loop-test .taken) (sym (c .before .is-digit .ensures) ∙ not-true _ (c .if1 .taken))
 
 read-on-requires : tie.Need-read-on-requires Inv-loop μ-loop
-read-on-requires c κs = (c .before .before .before .before .loop .inv .small, (omega arith, sym (c .before .is-digit .ensures) ∙ not-false _ (c .if1 .left)))
-
-add-i : tie.Need-add-i Inv-loop μ-loop
-add-i c = search needs
+read-on-requires c κs = (
+  c .before .before .before .before .loop .inv .small,
+  (omega arith, sym (c .before .is-digit .ensures) ∙ not-false _ (c .if1 .left)),
+)
 
 loop-less : tie.Need-loop-less Inv-loop μ-loop
 loop-less c = omega arith
@@ -43,23 +37,13 @@ loop-again : tie.Need-loop-again Inv-loop μ-loop
 loop-again c =
     let loop = c .before .before .before .before .before .loop in
     let loop-test = c .before .before .before .before .loop-test in
-    reading-turn (loop .inv) (loop-test .taken) (sym (c .before .before .is-digit .ensures) ∙ not-false _ (c .before .if1 .left)) (c .read-on .result) (c .read-on .ensures)
+    reading-turn (loop .inv) (loop-test .taken) (sym (c .before .before .is-digit .ensures) ∙ not-false _ (c .before .if1 .left))
+    (c .read-on .result) (c .read-on .ensures)
 
 returns-2 : tie.Need-returns-2 Inv-loop μ-loop
 returns-2 c = reading-end (c .before .loop .inv) (c .loop-test .left)
 
 pub read-number-spec : {M : Type 1} → statement M
 read-number-spec =
-    tie.close
-    (tie.spec
-    Inv-loop
-    μ-loop
-    loop-holds
-    shared-slice-read-byte
-    is-digit-requires
-    returns
-    read-on-requires
-    add-i
-    loop-less
-    loop-again
-    returns-2)
+    tie.close (tie.spec Inv-loop μ-loop loop-holds (λ c. search needs) (λ c κs. search needs) returns read-on-requires
+    (λ c. search needs) loop-less loop-again returns-2)

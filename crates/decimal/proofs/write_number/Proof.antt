@@ -14,12 +14,6 @@ Inv-loop n out₀ at end left₀ i₀ out left i = Writing n at out₀ left i ou
 abbrev μ-loop : tie.MeasureT-loop
 μ-loop n out₀ at end left₀ i₀ out left i = left
 
-digit-count-requires : tie.Need-digit-count-requires Inv-loop μ-loop
-digit-count-requires c κs = search needs
-
-add-end : tie.Need-add-end Inv-loop μ-loop
-add-end c = search needs
-
 loop-holds : tie.Need-loop-holds Inv-loop μ-loop
 loop-holds c =
     let args = c .before .before .args in
@@ -29,9 +23,6 @@ loop-holds c =
 sub-i : tie.Need-sub-i Inv-loop μ-loop
 sub-i c = writing-room (c .before .loop .inv) (c .loop-test .taken) .0
 
-digit-byte-requires : tie.Need-digit-byte-requires Inv-loop μ-loop
-digit-byte-requires c κs = search needs
-
 slice-write-out : tie.Need-slice-write-out Inv-loop μ-loop
 slice-write-out c = writing-room (c .before .before .loop .inv) (c .before .loop-test .taken) .1
 
@@ -39,10 +30,8 @@ loop-less : tie.Need-loop-less Inv-loop μ-loop
 loop-less c = omega arith
 
 loop-again : tie.Need-loop-again Inv-loop μ-loop
-loop-again c = writing-turn (c .before .before .loop .inv) (c .before .loop-test .taken) (c .digit-byte .result) (c .digit-byte .ensures)
-
-digit-byte-requires-2 : tie.Need-digit-byte-requires-2 Inv-loop μ-loop
-digit-byte-requires-2 c κs = search needs
+loop-again c = writing-turn (c .before .before .loop .inv) (c .before .loop-test .taken) (c .digit-byte .result)
+    (c .digit-byte .ensures)
 
 slice-write-out-2 : tie.Need-slice-write-out-2 Inv-loop μ-loop
 slice-write-out-2 c = writing-first (c .before .before .loop .inv)
@@ -53,23 +42,13 @@ same-length c =
     length-set (loop .out) (c .before .before .before .before .before .args .at) (c .digit-byte2 .result) ∙ loop .inv .size
 
 returns : tie.Need-returns Inv-loop μ-loop
-returns c = (omega arith, writing-end (c .before .before .loop .inv) (c .before .loop-test .left) (c .digit-byte2 .result) (c .digit-byte2 .ensures))
+returns c = (
+  omega arith,
+  writing-end (c .before .before .loop .inv) (c .before .loop-test .left) (c .digit-byte2 .result) (c .digit-byte2 .ensures),
+)
 
 pub write-number-spec : {M : Type 1} → statement M
 write-number-spec =
-    tie.close
-    (tie.spec
-    Inv-loop
-    μ-loop
-    digit-count-requires
-    add-end
-    loop-holds
-    sub-i
-    digit-byte-requires
-    slice-write-out
-    loop-less
-    loop-again
-    digit-byte-requires-2
-    slice-write-out-2
-    same-length
+    tie.close (tie.spec Inv-loop μ-loop (λ c κs. search needs) (λ c. search needs) loop-holds sub-i
+    (λ c κs. search needs) slice-write-out loop-less loop-again (λ c κs. search needs) slice-write-out-2 same-length
     returns)

@@ -17,21 +17,6 @@ abbrev μ-loop : tie.MeasureT-loop
 loop-holds : tie.Need-loop-holds Inv-loop μ-loop
 loop-holds c = filling-start _ _ _ refl
 
-centred-row-requires : tie.Need-centred-row-requires Inv-loop μ-loop
-centred-row-requires c κs = search needs
-
-mul-out : tie.Need-mul-out Inv-loop μ-loop
-mul-out c = search needs
-
-array-set-from-out : tie.Need-array-set-from-out Inv-loop μ-loop
-array-set-from-out c = search needs
-
-add-row : tie.Need-add-row Inv-loop μ-loop
-add-row c = search needs
-
-loop-less : tie.Need-loop-less Inv-loop μ-loop
-loop-less c = search needs
-
 loop-again : tie.Need-loop-again Inv-loop μ-loop
 loop-again c = filling-turn 7 _ _ _ _ (c .before .before .loop .inv) (c .before .loop-test .taken) (c .centred-row .ensures)
 
@@ -41,15 +26,5 @@ returns c = filling-end 7 _ _ _ (c .before .loop .inv) (c .loop-test .left)
 
 pub cells-of-spec : {M : Type 1} → statement M
 cells-of-spec =
-    tie.close
-    (tie.spec
-    Inv-loop
-    μ-loop
-    loop-holds
-    centred-row-requires
-    mul-out
-    array-set-from-out
-    add-row
-    loop-less
-    loop-again
-    returns)
+    tie.close (tie.spec Inv-loop μ-loop loop-holds (λ c κs. search needs) (λ c. search needs) (λ c. search needs)
+    (λ c. search needs) (λ c. search needs) loop-again returns)

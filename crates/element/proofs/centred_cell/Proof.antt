@@ -1,5 +1,6 @@
 -- The tests say whether the place is in the square; there a cell is one of the side times side bytes.
-use Rattle.element.proofs.ElementLaws.{side-bounds, square-entry, held-low, held-high, held-in, cell-row-out, cell-column-out, cell-in}
+use Rattle.element.proofs.ElementLaws.{side-bounds, square-entry, held-low, held-high, held-in, cell-row-out}
+use Rattle.element.proofs.ElementLaws.{cell-column-out, cell-in}
 use borrow.Author.Needs.{needs}
 use native.Mathlib.Omega.{arith}
 use Prim.Native.Nat.{_-_, _/_, _<_}
@@ -16,17 +17,11 @@ sub-margin-2 c = let b = side-bounds _ (c .pre .0) in omega arith
 returns : tie.Need-returns
 returns c = sym (cell-row-out _ _ _ _ (held-low _ _ (c .if1 .taken)))
 
-add-if2 : tie.Need-add-if2
-add-if2 c = search needs
-
 returns-2 : tie.Need-returns-2
 returns-2 c = sym (cell-row-out _ _ _ _ (held-high _ _ (c .if2 .taken)))
 
 returns-3 : tie.Need-returns-3
 returns-3 c = sym (cell-column-out _ _ _ _ (held-low _ _ (c .if3 .taken)))
-
-add-if4 : tie.Need-add-if4
-add-if4 c = search needs
 
 returns-4 : tie.Need-returns-4
 returns-4 c = sym (cell-column-out _ _ _ _ (held-high _ _ (c .if4 .taken)))
@@ -36,7 +31,8 @@ mul-result c =
     let pre = c .before .before .before .before .pre in
     let args = c .before .before .before .before .args in
     let b = side-bounds _ (pre .0) in
-    let s = square-entry _ _ _ (pre .0) (let l : args .row - (3 - (args .side - 1) / 2) < args .side = omega arith in l) (let l : args .col - (3 - (args .side - 1) / 2) < args .side = omega arith in l) in
+    let s = square-entry _ _ _ (pre .0) (let l : args .row - (3 - (args .side - 1) / 2) < args .side = omega arith in l)
+    (let l : args .col - (3 - (args .side - 1) / 2) < args .side = omega arith in l) in
     omega arith
 
 add-result : tie.Need-add-result
@@ -44,7 +40,8 @@ add-result c =
     let pre = c .before .before .before .before .pre in
     let args = c .before .before .before .before .args in
     let b = side-bounds _ (pre .0) in
-    let s = square-entry _ _ _ (pre .0) (let l : args .row - (3 - (args .side - 1) / 2) < args .side = omega arith in l) (let l : args .col - (3 - (args .side - 1) / 2) < args .side = omega arith in l) in
+    let s = square-entry _ _ _ (pre .0) (let l : args .row - (3 - (args .side - 1) / 2) < args .side = omega arith in l)
+    (let l : args .col - (3 - (args .side - 1) / 2) < args .side = omega arith in l) in
     omega arith
 
 shared-slice-read-result : tie.Need-shared-slice-read-result
@@ -52,28 +49,18 @@ shared-slice-read-result c =
     let pre = c .before .before .before .before .before .pre in
     let args = c .before .before .before .before .before .args in
     let b = side-bounds _ (pre .0) in
-    let s = square-entry _ _ _ (pre .0) (let l : args .row - (3 - (args .side - 1) / 2) < args .side = omega arith in l) (let l : args .col - (3 - (args .side - 1) / 2) < args .side = omega arith in l) in
+    let s = square-entry _ _ _ (pre .0) (let l : args .row - (3 - (args .side - 1) / 2) < args .side = omega arith in l)
+    (let l : args .col - (3 - (args .side - 1) / 2) < args .side = omega arith in l) in
     omega arith
 
 returns-5 : tie.Need-returns-5
 returns-5 c =
     let if1 = c .before .before .before .before .if1 in
     let if2 = c .before .before .before .if2 in
-    sym (cell-in _ _ _ _ (held-in _ _ (if1 .left) (if2 .left)) (held-in _ _ (c .before .before .if3 .left) (c .before .if4 .left)))
+    sym (cell-in _ _ _ _ (held-in _ _ (if1 .left) (if2 .left))
+    (held-in _ _ (c .before .before .if3 .left) (c .before .if4 .left)))
 
 pub centred-cell-spec : {M : Type 1} → statement M
 centred-cell-spec =
-    tie.close
-    (tie.spec
-    sub-margin
-    sub-margin-2
-    returns
-    add-if2
-    returns-2
-    returns-3
-    add-if4
-    returns-4
-    mul-result
-    add-result
-    shared-slice-read-result
-    returns-5)
+    tie.close (tie.spec sub-margin sub-margin-2 returns (λ c. search needs) returns-2 returns-3 (λ c. search needs)
+    returns-4 mul-result add-result shared-slice-read-result returns-5)

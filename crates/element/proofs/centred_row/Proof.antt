@@ -16,18 +16,6 @@ abbrev μ-loop : tie.MeasureT-loop
 loop-holds : tie.Need-loop-holds Inv-loop μ-loop
 loop-holds c = filling-start _ _ _ refl
 
-centred-cell-requires : tie.Need-centred-cell-requires Inv-loop μ-loop
-centred-cell-requires c κs = search needs
-
-array-write-out : tie.Need-array-write-out Inv-loop μ-loop
-array-write-out c = search needs
-
-add-col : tie.Need-add-col Inv-loop μ-loop
-add-col c = search needs
-
-loop-less : tie.Need-loop-less Inv-loop μ-loop
-loop-less c = search needs
-
 loop-again : tie.Need-loop-again Inv-loop μ-loop
 loop-again c = filling-turn 7 _ _ _ _ (c .before .before .loop .inv) (c .before .loop-test .taken) (c .centred-cell .ensures)
 
@@ -36,14 +24,5 @@ returns c = filling-end 7 _ _ _ (c .before .loop .inv) (c .loop-test .left)
 
 pub centred-row-spec : {M : Type 1} → statement M
 centred-row-spec =
-    tie.close
-    (tie.spec
-    Inv-loop
-    μ-loop
-    loop-holds
-    centred-cell-requires
-    array-write-out
-    add-col
-    loop-less
-    loop-again
-    returns)
+    tie.close (tie.spec Inv-loop μ-loop loop-holds (λ c κs. search needs) (λ c. search needs) (λ c. search needs)
+    (λ c. search needs) loop-again returns)

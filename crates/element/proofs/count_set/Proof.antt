@@ -18,17 +18,8 @@ abbrev μ-loop : tie.MeasureT-loop
 loop-holds : tie.Need-loop-holds Inv-loop μ-loop
 loop-holds c = (omega arith, (omega arith, omega arith))
 
-shared-slice-read-one-if-set : tie.Need-shared-slice-read-one-if-set Inv-loop μ-loop
-shared-slice-read-one-if-set c = search needs
-
-one-if-set-requires : tie.Need-one-if-set-requires Inv-loop μ-loop
-one-if-set-requires c κs = search needs
-
 add-count : tie.Need-add-count Inv-loop μ-loop
 add-count c = omega arith
-
-add-i : tie.Need-add-i Inv-loop μ-loop
-add-i c = search needs
 
 loop-less : tie.Need-loop-less Inv-loop μ-loop
 loop-less c = omega arith
@@ -36,24 +27,16 @@ loop-less c = omega arith
 loop-again : tie.Need-loop-again Inv-loop μ-loop
 loop-again c =
     let loop = c .before .before .before .loop in
-    let n = count-next (c .before .before .before .before .before .args .bytes .now) (loop .i) (c .before .before .loop-test .taken) in
+    let n = count-next (c .before .before .before .before .before .args .bytes .now) (loop .i)
+    (c .before .before .loop-test .taken) in
     let e = c .one-if-set .ensures in
     omega arith
 
 returns : tie.Need-returns Inv-loop μ-loop
-returns c = let z = count-end (c .before .before .before .args .bytes .now) (c .before .loop .i) (c .loop-test .left) in omega arith
+returns c = let z = count-end (c .before .before .before .args .bytes .now) (c .before .loop .i) (c .loop-test .left) in
+    omega arith
 
 pub count-set-spec : {M : Type 1} → statement M
 count-set-spec =
-    tie.close
-    (tie.spec
-    Inv-loop
-    μ-loop
-    loop-holds
-    shared-slice-read-one-if-set
-    one-if-set-requires
-    add-count
-    add-i
-    loop-less
-    loop-again
-    returns)
+    tie.close (tie.spec Inv-loop μ-loop loop-holds (λ c. search needs) (λ c κs. search needs) add-count
+    (λ c. search needs) loop-less loop-again returns)

@@ -13,31 +13,14 @@ use Rattle.element.proofs.fill_reflected.Statement.{statement}
 use Rattle.element.proofs.fill_reflected.Tie as tie
 
 abbrev Inv-loop : tie.InvT-loop
-Inv-loop side bytes out₀ count k₀ out k = Filling (side * side) (λ n. byteAt side bytes (side - 1 - n / side) (side - 1 - n % side)) k out
+Inv-loop side bytes out₀ count k₀ out k =
+    Filling (side * side) (λ n. byteAt side bytes (side - 1 - n / side) (side - 1 - n % side)) k out
 
 abbrev μ-loop : tie.MeasureT-loop
 μ-loop side bytes out₀ count k₀ out k = count - k
 
 loop-holds : tie.Need-loop-holds Inv-loop μ-loop
 loop-holds c = filling-start _ _ _ (c .pre .1 .1 ∙ c .pre .1 .0)
-
-sub-out : tie.Need-sub-out Inv-loop μ-loop
-sub-out c = search needs
-
-sub-out-2 : tie.Need-sub-out-2 Inv-loop μ-loop
-sub-out-2 c = search needs
-
-shared-slice-read-out : tie.Need-shared-slice-read-out Inv-loop μ-loop
-shared-slice-read-out c = search needs
-
-slice-write-out : tie.Need-slice-write-out Inv-loop μ-loop
-slice-write-out c = search needs
-
-add-k : tie.Need-add-k Inv-loop μ-loop
-add-k c = search needs
-
-loop-less : tie.Need-loop-less Inv-loop μ-loop
-loop-less c = search needs
 
 loop-again : tie.Need-loop-again Inv-loop μ-loop
 loop-again c =
@@ -46,10 +29,8 @@ loop-again c =
     let loop = c .before .before .loop in
     let l : loop .k < args .side * args .side = omega arith in
     filling-turn _ _ _ _ _ (loop .inv) l
-    (ap (λ n. getD (args .bytes .now) (n - 1 - loop .k) 0) (pre .1 .0) ∙ reflected-entry (args .side) (args .bytes .now) (loop .k) l)
-
-same-length : tie.Need-same-length Inv-loop μ-loop
-same-length c = search needs
+    (ap (λ n. getD (args .bytes .now) (n - 1 - loop .k) 0) (pre .1 .0)
+    ∙ reflected-entry (args .side) (args .bytes .now) (loop .k) l)
 
 returns : tie.Need-returns Inv-loop μ-loop
 unfolding reflectedBytes raster
@@ -60,17 +41,5 @@ returns c =
 
 pub fill-reflected-spec : {M : Type 1} → statement M
 fill-reflected-spec =
-    tie.close
-    (tie.spec
-    Inv-loop
-    μ-loop
-    loop-holds
-    sub-out
-    sub-out-2
-    shared-slice-read-out
-    slice-write-out
-    add-k
-    loop-less
-    loop-again
-    same-length
-    returns)
+    tie.close (tie.spec Inv-loop μ-loop loop-holds (λ c. search needs) (λ c. search needs) (λ c. search needs)
+    (λ c. search needs) (λ c. search needs) (λ c. search needs) loop-again (λ c. search needs) returns)

@@ -17,24 +17,6 @@ abbrev μ-loop : tie.MeasureT-loop
 loop-holds : tie.Need-loop-holds Inv-loop μ-loop
 loop-holds c = filling-start _ _ _ refl
 
-mul-out : tie.Need-mul-out Inv-loop μ-loop
-mul-out c = search needs
-
-index-1-out : tie.Need-index-1-out Inv-loop μ-loop
-index-1-out c = search needs
-
-index-2-out : tie.Need-index-2-out Inv-loop μ-loop
-index-2-out c = search needs
-
-array-write-out : tie.Need-array-write-out Inv-loop μ-loop
-array-write-out c = search needs
-
-add-k : tie.Need-add-k Inv-loop μ-loop
-add-k c = search needs
-
-loop-less : tie.Need-loop-less Inv-loop μ-loop
-loop-less c = search needs
-
 loop-again : tie.Need-loop-again Inv-loop μ-loop
 loop-again c = filling-turn 49 _ _ _ _ (c .before .before .loop .inv) (c .before .loop-test .taken) refl
 
@@ -44,16 +26,5 @@ returns c = filling-end 49 _ _ _ (c .before .loop .inv) (c .loop-test .left)
 
 pub flat-cells-spec : {M : Type 1} → statement M
 flat-cells-spec =
-    tie.close
-    (tie.spec
-    Inv-loop
-    μ-loop
-    loop-holds
-    mul-out
-    index-1-out
-    index-2-out
-    array-write-out
-    add-k
-    loop-less
-    loop-again
-    returns)
+    tie.close (tie.spec Inv-loop μ-loop loop-holds (λ c. search needs) (λ c. search needs) (λ c. search needs)
+    (λ c. search needs) (λ c. search needs) (λ c. search needs) loop-again returns)

@@ -6,9 +6,6 @@ use mathlib.Core.Path.{sym, _∙_}
 use Rattle.element.proofs.reflect.Statement.{statement}
 use Rattle.element.proofs.reflect.Tie as tie
 
-element-refusal-requires : tie.Need-element-refusal-requires
-element-refusal-requires c κs = search needs
-
 returns : tie.Need-returns
 returns c =
     let args = c .before .before .before .before .args in
@@ -17,7 +14,8 @@ returns c =
 returns-2 : tie.Need-returns-2
 returns-2 c =
     let args = c .before .before .before .before .before .args in
-    reflect-refuses-length (args .side) (args .bytes .now) (args .out .now) (sym (c .before .before .element-refusal .ensures) ∙ c .before .if1 .left) (c .if2 .taken)
+    reflect-refuses-length (args .side) (args .bytes .now) (args .out .now)
+    (sym (c .before .before .element-refusal .ensures) ∙ c .before .if1 .left) (c .if2 .taken)
 
 fill-reflected-requires : tie.Need-fill-reflected-requires
 fill-reflected-requires c κs =
@@ -26,24 +24,15 @@ fill-reflected-requires c κs =
     let s = accepted (args .side) (args .bytes .now) (sym (element-refusal .ensures) ∙ c .before .before .if1 .left) in
     (s .side-is, (s .size, c .before .if2 .left))
 
-same-length : tie.Need-same-length
-same-length c = search needs
-
 returns-3 : tie.Need-returns-3
 returns-3 c =
     let args = c .before .before .before .before .before .before .before .before .before .args in
     let element-refusal = c .before .before .before .before .before .before .element-refusal in
     let if1 = c .before .before .before .before .before .if1 in
     let if2 = c .before .before .before .before .if2 in
-    reflect-accepts (args .side) (args .bytes .now) (args .out .now) _ (sym (element-refusal .ensures) ∙ if1 .left) (if2 .left) (c .before .before .fill-reflected .ensures)
+    reflect-accepts (args .side) (args .bytes .now) (args .out .now) _ (sym (element-refusal .ensures) ∙ if1 .left) (if2 .left)
+    (c .before .before .fill-reflected .ensures)
 
 pub reflect-spec : {M : Type 1} → statement M
 reflect-spec =
-    tie.close
-    (tie.spec
-    element-refusal-requires
-    returns
-    returns-2
-    fill-reflected-requires
-    same-length
-    returns-3)
+    tie.close (tie.spec (λ c κs. search needs) returns returns-2 fill-reflected-requires (λ c. search needs) returns-3)

@@ -17,32 +17,9 @@ abbrev μ-loop : tie.MeasureT-loop
 loop-holds : tie.Need-loop-holds Inv-loop μ-loop
 loop-holds c = filling-start _ _ _ refl
 
-sub-other : tie.Need-sub-other Inv-loop μ-loop
-sub-other c = search needs
-
-mul-other : tie.Need-mul-other Inv-loop μ-loop
-mul-other c = search needs
-
-array-copy-out-other : tie.Need-array-copy-out-other Inv-loop μ-loop
-array-copy-out-other c = search needs
-
-turned-row-requires : tie.Need-turned-row-requires Inv-loop μ-loop
-turned-row-requires c κs = search needs
-
-mul-out : tie.Need-mul-out Inv-loop μ-loop
-mul-out c = search needs
-
-array-set-from-out : tie.Need-array-set-from-out Inv-loop μ-loop
-array-set-from-out c = search needs
-
-add-row : tie.Need-add-row Inv-loop μ-loop
-add-row c = search needs
-
-loop-less : tie.Need-loop-less Inv-loop μ-loop
-loop-less c = search needs
-
 loop-again : tie.Need-loop-again Inv-loop μ-loop
-loop-again c = filling-turn 7 _ _ _ _ (c .before .before .before .loop .inv) (c .before .before .loop-test .taken) (c .turned-row .ensures)
+loop-again c = filling-turn 7 _ _ _ _ (c .before .before .before .loop .inv) (c .before .before .loop-test .taken)
+    (c .turned-row .ensures)
 
 returns : tie.Need-returns Inv-loop μ-loop
 unfolding turned sevenBySeven
@@ -50,18 +27,6 @@ returns c = filling-end 7 _ _ _ (c .before .loop .inv) (c .loop-test .left)
 
 pub turned-cells-spec : {M : Type 1} → statement M
 turned-cells-spec =
-    tie.close
-    (tie.spec
-    Inv-loop
-    μ-loop
-    loop-holds
-    sub-other
-    mul-other
-    array-copy-out-other
-    turned-row-requires
-    mul-out
-    array-set-from-out
-    add-row
-    loop-less
-    loop-again
+    tie.close (tie.spec Inv-loop μ-loop loop-holds (λ c. search needs) (λ c. search needs) (λ c. search needs)
+    (λ c κs. search needs) (λ c. search needs) (λ c. search needs) (λ c. search needs) (λ c. search needs) loop-again
     returns)

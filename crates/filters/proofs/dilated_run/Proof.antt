@@ -4,25 +4,21 @@ use borrow.Author.Needs.{needs}
 use Rattle.filters.proofs.dilated_run.Statement.{statement}
 use Rattle.filters.proofs.dilated_run.Tie as tie
 
-start-dilation-requires : tie.Need-start-dilation-requires
-start-dilation-requires c κs = search needs
-
 finish-requires : tie.Need-finish-requires
 finish-requires c κs =
     let args = c .before .before .before .before .before .before .before .before .before .args in
     let pre = c .before .before .before .before .before .before .before .before .before .pre in
     let start-dilation = c .before .before .before .before .start-dilation in
-    dilation-fresh (args .width) (args .height) (args .sheet .now) (args .side) (args .bytes .now) (args .cap) (args .levels .now) pre (start-dilation .ensures)
-
-same-length : tie.Need-same-length
-same-length c = search needs
+    dilation-fresh (args .width) (args .height) (args .sheet .now) (args .side) (args .bytes .now) (args .cap)
+    (args .levels .now) pre (start-dilation .ensures)
 
 returns : tie.Need-returns
 returns c =
     let args = c .before .before .before .before .before .before .before .before .before .before .before .before .args in
     let pre = c .before .before .before .before .before .before .before .before .before .before .before .before .pre in
     let start-dilation = c .before .before .before .before .before .before .before .start-dilation in
-    dilation-given (args .width) (args .height) (args .sheet .now) (args .side) (args .bytes .now) (args .cap) (args .levels .now) pre (start-dilation .ensures) (c .before .before .finish .ensures)
+    dilation-given (args .width) (args .height) (args .sheet .now) (args .side) (args .bytes .now) (args .cap)
+    (args .levels .now) pre (start-dilation .ensures) (c .before .before .finish .ensures)
 
 pub dilated-run-spec : {M : Type 1} → statement M
-dilated-run-spec = tie.close (tie.spec start-dilation-requires finish-requires same-length returns)
+dilated-run-spec = tie.close (tie.spec (λ c κs. search needs) finish-requires (λ c. search needs) returns)

@@ -7,18 +7,12 @@ use Rattle.pbm.proofs.begins_p4.Tie as tie
 returns : tie.Need-returns
 returns c = p4-short (c .before .args .file .now) (c .if1 .taken)
 
-shared-slice-read-if2 : tie.Need-shared-slice-read-if2
-shared-slice-read-if2 c = search needs
-
 returns-2 : tie.Need-returns-2
 returns-2 c = p4-other (c .before .before .before .args .file .now) (c .if2 .taken)
-
-shared-slice-read-result : tie.Need-shared-slice-read-result
-shared-slice-read-result c = search needs
 
 returns-3 : tie.Need-returns-3
 returns-3 c = p4-second (c .before .before .before .before .args .file .now) (c .before .if2 .left)
 
 pub begins-p4-spec : {M : Type 1} → statement M
 begins-p4-spec =
-    tie.close (tie.spec returns shared-slice-read-if2 returns-2 shared-slice-read-result returns-3)
+    tie.close (tie.spec returns (λ c. search needs) returns-2 (λ c. search needs) returns-3)

@@ -5,9 +5,6 @@ use borrow.Author.Needs.{needs}
 use Rattle.pbm.proofs.cleared_byte.Statement.{statement}
 use Rattle.pbm.proofs.cleared_byte.Tie as tie
 
-rem-result : tie.Need-rem-result
-rem-result c = search needs
-
 sub-result : tie.Need-sub-result
 sub-result c = mod-le (c .before .args .byte) (c .before .args .weight)
 
@@ -18,4 +15,4 @@ returns-2 : tie.Need-returns-2
 returns-2 c = rw (ne-eqb (c .before .args .left) 1 (c .if1 .left))
 
 pub cleared-byte-spec : {M : Type 1} → statement M
-cleared-byte-spec = tie.close (tie.spec rem-result sub-result returns returns-2)
+cleared-byte-spec = tie.close (tie.spec (λ c. search needs) sub-result returns returns-2)

@@ -1,5 +1,6 @@
 -- The bytes before k are the packed sheet's, and the count of what is left of the row says which byte loses its padding.
-use Rattle.pbm.proofs.ClearingLaws.{Clearing, ready, clearing-start, clearing-turn, clearing-length, clearing-end, weight-positive, left-positive, read-room, write-room}
+use Rattle.pbm.proofs.ClearingLaws.{Clearing, ready, clearing-start, clearing-turn, clearing-length, clearing-end}
+use Rattle.pbm.proofs.ClearingLaws.{weight-positive, left-positive, read-room, write-room}
 use Rattle.sheet.proofs.FrameLaws.{raster-small}
 use borrow.Author.Needs.{needs}
 use native.Mathlib.Omega.{arith}
@@ -10,13 +11,11 @@ use Rattle.pbm.proofs.copy_cleared.Statement.{statement}
 use Rattle.pbm.proofs.copy_cleared.Tie as tie
 
 abbrev Inv-loop : tie.InvT-loop
-Inv-loop width height raster out₀ row count weight left₀ k₀ out left k = Clearing width height raster out₀ row count weight left k out
+Inv-loop width height raster out₀ row count weight left₀ k₀ out left k =
+    Clearing width height raster out₀ row count weight left k out
 
 abbrev μ-loop : tie.MeasureT-loop
 μ-loop width height raster out₀ row count weight left₀ k₀ out left k = count - k
-
-row-bytes-requires : tie.Need-row-bytes-requires Inv-loop μ-loop
-row-bytes-requires c κs = search needs
 
 mul-count : tie.Need-mul-count Inv-loop μ-loop
 mul-count c =
@@ -25,14 +24,12 @@ mul-count c =
     let s = raster-small (args .width) (args .height) (pre .0) (pre .1 .0) in
     let e = ap (λ n. args .height * n) (c .row-bytes .ensures) in omega arith
 
-padding-weight-requires : tie.Need-padding-weight-requires Inv-loop μ-loop
-padding-weight-requires c κs = search needs
-
 loop-holds : tie.Need-loop-holds Inv-loop μ-loop
 loop-holds c =
     let args = c .before .before .before .before .args in
     let pre = c .before .before .before .before .pre in
-    clearing-start (ready (args .raster .now) (args .out .now) (c .before .row-bytes .ensures) (c .padding-weight .ensures) (pre .1 .1 .0) (pre .1 .1 .1))
+    clearing-start (ready (args .raster .now) (args .out .now) (c .before .row-bytes .ensures) (c .padding-weight .ensures)
+    (pre .1 .1 .0) (pre .1 .1 .1))
 
 shared-slice-read-cleared-byte : tie.Need-shared-slice-read-cleared-byte Inv-loop μ-loop
 shared-slice-read-cleared-byte c = read-room (c .before .before .loop .inv) (c .before .loop-test .taken)
@@ -58,7 +55,9 @@ loop-again c =
     let loop-test = c .before .before .before .loop-test in
     let cleared-byte = c .before .cleared-byte in
     let b = c .before .before .shared-slice-known2 .given (loop .k) in
-    clearing-turn (loop .inv) (loop-test .taken) (getD (c .before .before .before .before .before .before .before .before .before .args .raster .now) (loop .k) 0) (cleared-byte .result) (c .left-after .result) refl (omega arith) (cleared-byte .ensures) (c .left-after .ensures)
+    clearing-turn (loop .inv) (loop-test .taken)
+    (getD (c .before .before .before .before .before .before .before .before .before .args .raster .now) (loop .k) 0)
+    (cleared-byte .result) (c .left-after .result) refl (omega arith) (cleared-byte .ensures) (c .left-after .ensures)
 
 same-length : tie.Need-same-length Inv-loop μ-loop
 same-length c = clearing-length (c .before .loop .inv)
@@ -68,20 +67,6 @@ returns c = clearing-end (c .before .loop .inv) (c .loop-test .left)
 
 pub copy-cleared-spec : {M : Type 1} → statement M
 copy-cleared-spec =
-    tie.close
-    (tie.spec
-    Inv-loop
-    μ-loop
-    row-bytes-requires
-    mul-count
-    padding-weight-requires
-    loop-holds
-    shared-slice-read-cleared-byte
-    cleared-byte-requires
-    slice-write-out
-    left-after-requires
-    add-k
-    loop-less
-    loop-again
-    same-length
-    returns)
+    tie.close (tie.spec Inv-loop μ-loop (λ c κs. search needs) mul-count (λ c κs. search needs) loop-holds
+    shared-slice-read-cleared-byte cleared-byte-requires slice-write-out left-after-requires add-k loop-less loop-again
+    same-length returns)

@@ -11,16 +11,10 @@ use Rattle.pbm.proofs.is_white_at.Tie as tie
 returns : tie.Need-returns
 returns c = sym (ap not (run-none isWhite (c .before .before .args .file .now) (c .before .before .args .at) (omega arith)))
 
-shared-slice-read-byte : tie.Need-shared-slice-read-byte
-shared-slice-read-byte c = search needs
-
-is-white-requires : tie.Need-is-white-requires
-is-white-requires c κs = search needs
-
 returns-2 : tie.Need-returns-2
 returns-2 c =
     let args = c .before .before .before .before .args in
     c .is-white .ensures ∙ run-there isWhite (args .file .now) (args .at) (omega arith)
 
 pub is-white-at-spec : {M : Type 1} → statement M
-is-white-at-spec = tie.close (tie.spec returns shared-slice-read-byte is-white-requires returns-2)
+is-white-at-spec = tie.close (tie.spec returns (λ c. search needs) (λ c κs. search needs) returns-2)

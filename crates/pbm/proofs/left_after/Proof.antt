@@ -7,11 +7,8 @@ use Rattle.pbm.proofs.left_after.Tie as tie
 returns : tie.Need-returns
 returns c = rw (eq-eqb (c .before .args .left) 1 (c .if1 .taken))
 
-sub-result : tie.Need-sub-result
-sub-result c = search needs
-
 returns-2 : tie.Need-returns-2
 returns-2 c = rw (ne-eqb (c .before .args .left) 1 (c .if1 .left))
 
 pub left-after-spec : {M : Type 1} → statement M
-left-after-spec = tie.close (tie.spec returns sub-result returns-2)
+left-after-spec = tie.close (tie.spec returns (λ c. search needs) returns-2)

@@ -8,9 +8,6 @@ use mathlib.Core.Path.{ap}
 use Rattle.pbm.proofs.raster_refusal.Statement.{statement}
 use Rattle.pbm.proofs.raster_refusal.Tie as tie
 
-row-bytes-requires : tie.Need-row-bytes-requires
-row-bytes-requires c κs = search needs
-
 mul-count : tie.Need-mul-count
 mul-count c =
     let args = c .before .before .args in
@@ -37,4 +34,4 @@ returns-3 c =
     raster-exact (args .width) (args .height) (args .raster .now) (omega arith)
 
 pub raster-refusal-spec : {M : Type 1} → statement M
-raster-refusal-spec = tie.close (tie.spec row-bytes-requires mul-count returns returns-2 returns-3)
+raster-refusal-spec = tie.close (tie.spec (λ c κs. search needs) mul-count returns returns-2 returns-3)

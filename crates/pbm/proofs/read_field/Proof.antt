@@ -5,14 +5,12 @@ use native.Mathlib.Omega.{arith}
 use Rattle.pbm.proofs.read_field.Statement.{statement}
 use Rattle.pbm.proofs.read_field.Tie as tie
 
-skip-white-requires : tie.Need-skip-white-requires
-skip-white-requires c κs = search needs
-
 returns : tie.Need-returns
 returns c =
     let args = c .before .before .before .args in
     let skip-white = c .before .skip-white in
-    field-lost (args .file .now) (args .at) (field-without-white (args .file .now) (args .at) (skip-white .result) (skip-white .ensures) (c .if1 .taken))
+    field-lost (args .file .now) (args .at)
+    (field-without-white (args .file .now) (args .at) (skip-white .result) (skip-white .ensures) (c .if1 .taken))
 
 read-number-requires : tie.Need-read-number-requires
 read-number-requires c κs =
@@ -26,7 +24,9 @@ returns-2 c =
     let args = c .before .before .before .before .before .args in
     let skip-white = c .before .before .before .skip-white in
     let read-number = c .before .read-number in
-    field-lost (args .file .now) (args .at) (field-without-digits (args .file .now) (args .at) (skip-white .result) (skip-white .ensures) (read-number .result .next) (read-number .ensures .0) (c .before .before .if1 .left) (c .if2 .taken))
+    field-lost (args .file .now) (args .at)
+    (field-without-digits (args .file .now) (args .at) (skip-white .result) (skip-white .ensures) (read-number .result .next)
+    (read-number .ensures .0) (c .before .before .if1 .left) (c .if2 .taken))
 
 returns-3 : tie.Need-returns-3
 returns-3 c =
@@ -34,8 +34,11 @@ returns-3 c =
     let pre = c .before .before .before .before .before .pre in
     let skip-white = c .before .before .before .skip-white in
     let read-number = c .before .read-number in
-    field-found (args .file .now) (args .at) (skip-white .result) (skip-white .ensures) (read-number .result .next) (read-number .ensures .0) (read-number .result .value) (start-within (args .file .now) (args .at) (skip-white .result) (skip-white .ensures) pre) (c .before .before .if1 .left) (c .if2 .left) (read-number .ensures .1)
+    field-found (args .file .now) (args .at) (skip-white .result) (skip-white .ensures) (read-number .result .next)
+    (read-number .ensures .0) (read-number .result .value)
+    (start-within (args .file .now) (args .at) (skip-white .result) (skip-white .ensures) pre) (c .before .before .if1 .left)
+    (c .if2 .left) (read-number .ensures .1)
 
 pub read-field-spec : {M : Type 1} → statement M
 read-field-spec =
-    tie.close (tie.spec skip-white-requires returns read-number-requires returns-2 returns-3)
+    tie.close (tie.spec (λ c κs. search needs) returns read-number-requires returns-2 returns-3)

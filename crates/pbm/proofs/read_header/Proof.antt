@@ -7,20 +7,20 @@ use mathlib.Core.Path.{sym, _∙_}
 use Rattle.pbm.proofs.read_header.Statement.{statement}
 use Rattle.pbm.proofs.read_header.Tie as tie
 
-begins-p4-requires : tie.Need-begins-p4-requires
-begins-p4-requires c κs = search needs
-
 returns : tie.Need-returns
-returns c = header-21 (c .before .before .before .args .file .now) (sym (c .before .begins-p4 .ensures) ∙ not-true _ (c .if1 .taken))
+returns c = header-21 (c .before .before .before .args .file .now)
+    (sym (c .before .begins-p4 .ensures) ∙ not-true _ (c .if1 .taken))
 
 read-field-requires : tie.Need-read-field-requires
-read-field-requires c κs = p4-long (c .before .before .before .args .file .now) (sym (c .before .begins-p4 .ensures) ∙ not-false _ (c .if1 .left))
+read-field-requires c κs =
+    p4-long (c .before .before .before .args .file .now) (sym (c .before .begins-p4 .ensures) ∙ not-false _ (c .if1 .left))
 
 returns-2 : tie.Need-returns-2
 returns-2 c =
     let begins-p4 = c .before .before .before .before .begins-p4 in
     let if1 = c .before .before .before .if1 in
-    lost-width (c .before .before .before .before .before .before .args .file .now) (sym (begins-p4 .ensures) ∙ not-false _ (if1 .left)) (c .before .before .read-field .ensures) (not-true _ (c .if2 .taken))
+    lost-width (c .before .before .before .before .before .before .args .file .now)
+    (sym (begins-p4 .ensures) ∙ not-false _ (if1 .left)) (c .before .before .read-field .ensures) (not-true _ (c .if2 .taken))
 
 read-field-requires-2 : tie.Need-read-field-requires-2
 read-field-requires-2 c κs = c .before .before .read-field .ensures .within
@@ -31,7 +31,9 @@ returns-3 c =
     let if1 = c .before .before .before .before .before .before .if1 in
     let read-field = c .before .before .before .before .before .read-field in
     let if2 = c .before .before .before .if2 in
-    lost-height (c .before .before .before .before .before .before .before .before .before .args .file .now) (sym (begins-p4 .ensures) ∙ not-false _ (if1 .left)) (read-field .ensures) (not-false _ (if2 .left)) (c .before .before .read-field2 .ensures) (not-true _ (c .if3 .taken))
+    lost-height (c .before .before .before .before .before .before .before .before .before .args .file .now)
+    (sym (begins-p4 .ensures) ∙ not-false _ (if1 .left)) (read-field .ensures) (not-false _ (if2 .left))
+    (c .before .before .read-field2 .ensures) (not-true _ (c .if3 .taken))
 
 is-white-at-requires : tie.Need-is-white-at-requires
 is-white-at-requires c κs = c .before .before .read-field2 .ensures .within
@@ -43,10 +45,10 @@ returns-4 c =
     let read-field = c .before .before .before .before .before .before .before .read-field in
     let if2 = c .before .before .before .before .before .if2 in
     let read-field2 = c .before .before .before .before .read-field2 in
-    lost-end (c .before .before .before .before .before .before .before .before .before .before .before .args .file .now) (sym (begins-p4 .ensures) ∙ not-false _ (if1 .left)) (read-field .ensures) (not-false _ (if2 .left)) (read-field2 .ensures) (not-false _ (c .before .before .if3 .left)) (not-false _ (sym (c .before .is-white-at .ensures) ∙ not-true _ (c .if4 .taken)))
-
-frame-refusal-requires : tie.Need-frame-refusal-requires
-frame-refusal-requires c κs = search needs
+    lost-end (c .before .before .before .before .before .before .before .before .before .before .before .args .file .now)
+    (sym (begins-p4 .ensures) ∙ not-false _ (if1 .left)) (read-field .ensures) (not-false _ (if2 .left)) (read-field2 .ensures)
+    (not-false _ (c .before .before .if3 .left))
+    (not-false _ (sym (c .before .is-white-at .ensures) ∙ not-true _ (c .if4 .taken)))
 
 add-t11 : tie.Need-add-t11
 add-t11 c = let w = c .before .before .before .before .before .read-field2 .ensures .within in omega arith
@@ -59,20 +61,12 @@ returns-5 c =
     let if2 = c .before .before .before .before .before .before .if2 in
     let read-field2 = c .before .before .before .before .before .read-field2 in
     let if3 = c .before .before .before .if3 in
-    found-header (c .before .before .before .before .before .before .before .before .before .before .before .before .args .file .now) (sym (begins-p4 .ensures) ∙ not-false _ (if1 .left)) (read-field .ensures) (not-false _ (if2 .left)) (read-field2 .ensures) (not-false _ (if3 .left)) (not-true _ (sym (c .before .before .is-white-at .ensures) ∙ not-false _ (c .before .if4 .left))) (c .frame-refusal .result) (c .frame-refusal .ensures) _ (omega arith)
+    found-header (c .before .before .before .before .before .before .before .before .before .before .before .before .args .file .now)
+    (sym (begins-p4 .ensures) ∙ not-false _ (if1 .left)) (read-field .ensures) (not-false _ (if2 .left)) (read-field2 .ensures)
+    (not-false _ (if3 .left)) (not-true _ (sym (c .before .before .is-white-at .ensures) ∙ not-false _ (c .before .if4 .left)))
+    (c .frame-refusal .result) (c .frame-refusal .ensures) _ (omega arith)
 
 pub read-header-spec : {M : Type 1} → statement M
 read-header-spec =
-    tie.close
-    (tie.spec
-    begins-p4-requires
-    returns
-    read-field-requires
-    returns-2
-    read-field-requires-2
-    returns-3
-    is-white-at-requires
-    returns-4
-    frame-refusal-requires
-    add-t11
-    returns-5)
+    tie.close (tie.spec (λ c κs. search needs) returns read-field-requires returns-2 read-field-requires-2 returns-3
+    is-white-at-requires returns-4 (λ c κs. search needs) add-t11 returns-5)

@@ -1,11 +1,9 @@
 -- Each answer follows from what the header, the raster and the room were found to be.
-use Rattle.pbm.proofs.Reading.{header-refuses, at-within, frame-in, raster-refuses, room-refuses, copy-there, copy-room, read-accepts}
+use Rattle.pbm.proofs.Reading.{header-refuses, at-within, frame-in, raster-refuses, room-refuses, copy-there, copy-room}
+use Rattle.pbm.proofs.Reading.{read-accepts}
 use borrow.Author.Needs.{needs}
 use Rattle.pbm.proofs.read_pbm.Statement.{statement}
 use Rattle.pbm.proofs.read_pbm.Tie as tie
-
-read-header-requires : tie.Need-read-header-requires
-read-header-requires c κs = search needs
 
 returns : tie.Need-returns
 returns c =
@@ -22,9 +20,6 @@ part-raster-refusal-start c =
     let args = c .before .before .before .before .args in
     at-within (args .file .now) (args .out .now) (c .before .read-header .ensures) (c .if1 .left)
 
-part-raster-refusal-end : tie.Need-part-raster-refusal-end
-part-raster-refusal-end c = search needs
-
 raster-refusal-requires : tie.Need-raster-refusal-requires
 raster-refusal-requires c κs =
     let args = c .before .before .before .before .before .args in
@@ -36,7 +31,8 @@ returns-2 c =
     let read-header = c .before .before .before .before .read-header in
     let if1 = c .before .before .before .if1 in
     let raster-refusal = c .before .raster-refusal in
-    raster-refuses (args .file .now) (args .out .now) (read-header .ensures) (if1 .left) (raster-refusal .result) (raster-refusal .ensures) (c .if2 .taken)
+    raster-refuses (args .file .now) (args .out .now) (read-header .ensures) (if1 .left) (raster-refusal .result)
+    (raster-refusal .ensures) (c .if2 .taken)
 
 sub-if3 : tie.Need-sub-if3
 sub-if3 c =
@@ -51,7 +47,8 @@ returns-3 c =
     let read-header = c .before .before .before .before .before .read-header in
     let if1 = c .before .before .before .before .if1 in
     let raster-refusal = c .before .before .raster-refusal in
-    room-refuses (args .file .now) (args .out .now) (read-header .ensures) (if1 .left) (raster-refusal .result) (raster-refusal .ensures) (c .before .if2 .left) (c .if3 .taken)
+    room-refuses (args .file .now) (args .out .now) (read-header .ensures) (if1 .left) (raster-refusal .result)
+    (raster-refusal .ensures) (c .before .if2 .left) (c .if3 .taken)
 
 sub-copy-cleared : tie.Need-sub-copy-cleared
 sub-copy-cleared c =
@@ -67,9 +64,6 @@ part-copy-cleared-start c =
     let if1 = c .before .before .before .before .if1 in
     at-within (args .file .now) (args .out .now) (read-header .ensures) (if1 .left)
 
-part-copy-cleared-end : tie.Need-part-copy-cleared-end
-part-copy-cleared-end c = search needs
-
 copy-cleared-requires : tie.Need-copy-cleared-requires
 copy-cleared-requires c κs =
     let args = c .before .before .before .before .before .before .before .before .before .before .args in
@@ -77,11 +71,18 @@ copy-cleared-requires c κs =
     let if1 = c .before .before .before .before .before .before .if1 in
     let raster-refusal = c .before .before .before .before .raster-refusal in
     let if2 = c .before .before .before .if2 in
-    let f = frame-in (args .file .now) (args .out .now) (read-header .ensures) (if1 .left) in
-    (f .0, (f .1, (copy-there (args .file .now) (args .out .now) (read-header .ensures) (if1 .left) (raster-refusal .result) (raster-refusal .ensures) (if2 .left), copy-room (args .file .now) (args .out .now) (read-header .ensures) (if1 .left) (raster-refusal .result) (raster-refusal .ensures) (if2 .left) (c .before .before .if3 .left))))
-
-same-length : tie.Need-same-length
-same-length c = search needs
+    let f = frame-in (args .file .now) (args .out .now) (read-header .ensures) (if1 .left) in (
+      f .0,
+      (
+        f .1,
+        (
+          copy-there (args .file .now) (args .out .now) (read-header .ensures) (if1 .left) (raster-refusal .result)
+              (raster-refusal .ensures) (if2 .left),
+          copy-room (args .file .now) (args .out .now) (read-header .ensures) (if1 .left) (raster-refusal .result)
+              (raster-refusal .ensures) (if2 .left) (c .before .before .if3 .left),
+        ),
+      ),
+    )
 
 returns-4 : tie.Need-returns-4
 returns-4 c =
@@ -92,24 +93,11 @@ returns-4 c =
     let if2 = c .before .before .before .before .before .before .if2 in
     let if3 = c .before .before .before .before .before .if3 in
     let copy-cleared = c .before .before .copy-cleared in
-    read-accepts (args .file .now) (args .out .now) (read-header .ensures) (if1 .left) (raster-refusal .result) (raster-refusal .ensures) (if2 .left) (if3 .left) (copy-cleared .last .1 .1 .1 .0) (copy-cleared .ensures)
+    read-accepts (args .file .now) (args .out .now) (read-header .ensures) (if1 .left) (raster-refusal .result)
+    (raster-refusal .ensures) (if2 .left) (if3 .left) (copy-cleared .last .1 .1 .1 .0) (copy-cleared .ensures)
 
 pub read-pbm-spec : {M : Type 1} → statement M
 read-pbm-spec =
-    tie.close
-    (tie.spec
-    read-header-requires
-    returns
-    sub-raster-refusal
-    part-raster-refusal-start
-    part-raster-refusal-end
-    raster-refusal-requires
-    returns-2
-    sub-if3
-    returns-3
-    sub-copy-cleared
-    part-copy-cleared-start
-    part-copy-cleared-end
-    copy-cleared-requires
-    same-length
-    returns-4)
+    tie.close (tie.spec (λ c κs. search needs) returns sub-raster-refusal part-raster-refusal-start (λ c. search needs)
+    raster-refusal-requires returns-2 sub-if3 returns-3 sub-copy-cleared part-copy-cleared-start (λ c. search needs)
+    copy-cleared-requires (λ c. search needs) returns-4)

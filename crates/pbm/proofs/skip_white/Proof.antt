@@ -19,20 +19,11 @@ abbrev μ-loop : tie.MeasureT-loop
 loop-holds : tie.Need-loop-holds Inv-loop μ-loop
 loop-holds c = skipping-start isWhite (c .before .args .file .now) (c .before .args .at) (c .before .pre)
 
-shared-slice-read-byte : tie.Need-shared-slice-read-byte Inv-loop μ-loop
-shared-slice-read-byte c = search needs
-
-is-white-requires : tie.Need-is-white-requires Inv-loop μ-loop
-is-white-requires c κs = search needs
-
 returns : tie.Need-returns Inv-loop μ-loop
 returns c =
     let loop = c .before .before .before .before .loop in
     let loop-test = c .before .before .before .loop-test in
     skipping-stop (loop .inv) (loop-test .taken) (sym (c .before .is-white .ensures) ∙ not-true _ (c .if1 .taken))
-
-add-i : tie.Need-add-i Inv-loop μ-loop
-add-i c = search needs
 
 loop-less : tie.Need-loop-less Inv-loop μ-loop
 loop-less c = omega arith
@@ -48,15 +39,5 @@ returns-2 c = skipping-end (c .before .loop .inv) (c .loop-test .left)
 
 pub skip-white-spec : {M : Type 1} → statement M
 skip-white-spec =
-    tie.close
-    (tie.spec
-    Inv-loop
-    μ-loop
-    loop-holds
-    shared-slice-read-byte
-    is-white-requires
-    returns
-    add-i
-    loop-less
-    loop-again
-    returns-2)
+    tie.close (tie.spec Inv-loop μ-loop loop-holds (λ c. search needs) (λ c κs. search needs) returns
+    (λ c. search needs) loop-less loop-again returns-2)

@@ -4,27 +4,16 @@ use borrow.Author.Needs.{needs}
 use Rattle.pbm.proofs.write_header.Statement.{statement}
 use Rattle.pbm.proofs.write_header.Tie as tie
 
-slice-aggregate-write-pair : tie.Need-slice-aggregate-write-pair
-slice-aggregate-write-pair c = search needs
-
-slice-aggregate-write-pair-2 : tie.Need-slice-aggregate-write-pair-2
-slice-aggregate-write-pair-2 c = search needs
-
 write-pair-requires : tie.Need-write-pair-requires
 write-pair-requires c κs =
     let start = c .before .before .before .before in
     sides-room (start .args .width) (start .args .height) (start .args .out .now) (start .pre)
 
-slice-aggregate-write-bytes : tie.Need-slice-aggregate-write-bytes
-slice-aggregate-write-bytes c = search needs
-
 write-bytes-requires : tie.Need-write-bytes-requires
 write-bytes-requires c κs =
     let start = c .before .before .before .before .before .before .before .before .before in
-    end-room (start .args .width) (start .args .height) (start .args .out .now) (start .pre) (c .before .before .before .before .write-pair .ensures)
-
-same-length : tie.Need-same-length
-same-length c = search needs
+    end-room (start .args .width) (start .args .height) (start .args .out .now) (start .pre)
+    (c .before .before .before .before .write-pair .ensures)
 
 returns : tie.Need-returns
 returns c =
@@ -35,12 +24,5 @@ returns c =
 
 pub write-header-spec : {M : Type 1} → statement M
 write-header-spec =
-    tie.close
-    (tie.spec
-    slice-aggregate-write-pair
-    slice-aggregate-write-pair-2
-    write-pair-requires
-    slice-aggregate-write-bytes
-    write-bytes-requires
-    same-length
-    returns)
+    tie.close (tie.spec (λ c. search needs) (λ c. search needs) write-pair-requires (λ c. search needs)
+    write-bytes-requires (λ c. search needs) returns)

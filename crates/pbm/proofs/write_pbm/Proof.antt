@@ -1,44 +1,40 @@
 -- Each answer follows from what the sheet and the room were found to be; the raster is written into the part after the header.
-use Rattle.pbm.proofs.Writing.{sheet-refuses, write-room-refuses, header-room, sheet-in, at-room, sheet-there, part-room, write-accepts, small, sizes}
+use Rattle.pbm.proofs.Writing.{sheet-refuses, write-room-refuses, header-room, sheet-in, at-room, sheet-there, part-room}
+use Rattle.pbm.proofs.Writing.{write-accepts, small, sizes}
 use borrow.Author.Needs.{needs}
 use native.Mathlib.Omega.{arith}
 use Rattle.pbm.proofs.write_pbm.Statement.{statement}
 use Rattle.pbm.proofs.write_pbm.Tie as tie
 
-sheet-refusal-requires : tie.Need-sheet-refusal-requires
-sheet-refusal-requires c κs = search needs
-
 returns : tie.Need-returns
 returns c =
     let args = c .before .before .before .before .args in
     let sheet-refusal = c .before .sheet-refusal in
-    sheet-refuses (args .width) (args .height) (args .sheet .now) (args .out .now) (sheet-refusal .result) (sheet-refusal .ensures) (c .if1 .taken)
-
-digit-count-requires : tie.Need-digit-count-requires
-digit-count-requires c κs = search needs
+    sheet-refuses (args .width) (args .height) (args .sheet .now) (args .out .now) (sheet-refusal .result)
+    (sheet-refusal .ensures) (c .if1 .taken)
 
 add-size : tie.Need-add-size
 add-size c =
     let args = c .before .before .before .before .before .args in
     let sheet-refusal = c .before .before .sheet-refusal in
-    let s = small (args .width) (args .height) (args .sheet .now) (args .out .now) (sheet-refusal .result) (sheet-refusal .ensures) (c .before .if1 .left) in
+    let s = small (args .width) (args .height) (args .sheet .now) (args .out .now) (sheet-refusal .result)
+    (sheet-refusal .ensures) (c .before .if1 .left) in
     let d = c .digit-count .ensures in omega arith
-
-digit-count-requires-2 : tie.Need-digit-count-requires-2
-digit-count-requires-2 c κs = search needs
 
 add-size-2 : tie.Need-add-size-2
 add-size-2 c =
     let args = c .before .before .before .before .before .before .args in
     let sheet-refusal = c .before .before .before .sheet-refusal in
-    let s = small (args .width) (args .height) (args .sheet .now) (args .out .now) (sheet-refusal .result) (sheet-refusal .ensures) (c .before .before .if1 .left) in
+    let s = small (args .width) (args .height) (args .sheet .now) (args .out .now) (sheet-refusal .result)
+    (sheet-refusal .ensures) (c .before .before .if1 .left) in
     let d = c .before .digit-count .ensures in let e = c .digit-count2 .ensures in omega arith
 
 add-size-3 : tie.Need-add-size-3
 add-size-3 c =
     let args = c .before .before .before .before .before .before .args in
     let sheet-refusal = c .before .before .before .sheet-refusal in
-    let s = small (args .width) (args .height) (args .sheet .now) (args .out .now) (sheet-refusal .result) (sheet-refusal .ensures) (c .before .before .if1 .left) in
+    let s = small (args .width) (args .height) (args .sheet .now) (args .out .now) (sheet-refusal .result)
+    (sheet-refusal .ensures) (c .before .before .if1 .left) in
     let d = c .before .digit-count .ensures in let e = c .digit-count2 .ensures in omega arith
 
 returns-2 : tie.Need-returns-2
@@ -46,7 +42,10 @@ returns-2 c =
     let args = c .before .before .before .before .before .before .before .args in
     let sheet-refusal = c .before .before .before .before .sheet-refusal in
     let if1 = c .before .before .before .if1 in
-    write-room-refuses (args .width) (args .height) (args .sheet .now) (args .out .now) (sheet-refusal .result) (sheet-refusal .ensures) (if1 .left) _ (sizes _ _ _ _ (args .sheet .now) (c .before .before .digit-count .ensures) (c .before .digit-count2 .ensures)) (c .if2 .taken)
+    write-room-refuses (args .width) (args .height) (args .sheet .now) (args .out .now) (sheet-refusal .result)
+    (sheet-refusal .ensures) (if1 .left) _
+    (sizes _ _ _ _ (args .sheet .now) (c .before .before .digit-count .ensures) (c .before .digit-count2 .ensures))
+    (c .if2 .taken)
 
 write-header-requires : tie.Need-write-header-requires
 write-header-requires c κs =
@@ -54,7 +53,9 @@ write-header-requires c κs =
     let sheet-refusal = c .before .before .before .before .before .sheet-refusal in
     let if1 = c .before .before .before .before .if1 in
     let digit-count = c .before .before .before .digit-count in
-    header-room (args .width) (args .height) (args .sheet .now) (args .out .now) (sheet-refusal .result) (sheet-refusal .ensures) (if1 .left) _ (sizes _ _ _ _ (args .sheet .now) (digit-count .ensures) (c .before .before .digit-count2 .ensures)) (c .before .if2 .left)
+    header-room (args .width) (args .height) (args .sheet .now) (args .out .now) (sheet-refusal .result) (sheet-refusal .ensures)
+    (if1 .left) _ (sizes _ _ _ _ (args .sheet .now) (digit-count .ensures) (c .before .before .digit-count2 .ensures))
+    (c .before .if2 .left)
 
 sub-copy-cleared : tie.Need-sub-copy-cleared
 sub-copy-cleared c =
@@ -65,7 +66,9 @@ sub-copy-cleared c =
     let digit-count2 = c .before .before .before .before .before .digit-count2 in
     let if2 = c .before .before .before .before .if2 in
     let write-header = c .before .before .write-header in
-    at-room (args .width) (args .height) (args .sheet .now) (args .out .now) (sheet-refusal .result) (sheet-refusal .ensures) (if1 .left) _ (sizes _ _ _ _ (args .sheet .now) (digit-count .ensures) (digit-count2 .ensures)) (if2 .left) (write-header .result) (write-header .last .1 .1 .0) (write-header .ensures)
+    at-room (args .width) (args .height) (args .sheet .now) (args .out .now) (sheet-refusal .result) (sheet-refusal .ensures)
+    (if1 .left) _ (sizes _ _ _ _ (args .sheet .now) (digit-count .ensures) (digit-count2 .ensures)) (if2 .left)
+    (write-header .result) (write-header .last .1 .1 .0) (write-header .ensures)
 
 part-copy-cleared-start : tie.Need-part-copy-cleared-start
 part-copy-cleared-start c =
@@ -76,10 +79,9 @@ part-copy-cleared-start c =
     let digit-count2 = c .before .before .before .before .before .digit-count2 in
     let if2 = c .before .before .before .before .if2 in
     let write-header = c .before .before .write-header in
-    at-room (args .width) (args .height) (args .sheet .now) (args .out .now) (sheet-refusal .result) (sheet-refusal .ensures) (if1 .left) _ (sizes _ _ _ _ (args .sheet .now) (digit-count .ensures) (digit-count2 .ensures)) (if2 .left) (write-header .result) (write-header .last .1 .1 .0) (write-header .ensures)
-
-part-copy-cleared-end : tie.Need-part-copy-cleared-end
-part-copy-cleared-end c = search needs
+    at-room (args .width) (args .height) (args .sheet .now) (args .out .now) (sheet-refusal .result) (sheet-refusal .ensures)
+    (if1 .left) _ (sizes _ _ _ _ (args .sheet .now) (digit-count .ensures) (digit-count2 .ensures)) (if2 .left)
+    (write-header .result) (write-header .last .1 .1 .0) (write-header .ensures)
 
 copy-cleared-requires : tie.Need-copy-cleared-requires
 copy-cleared-requires c κs =
@@ -90,11 +92,21 @@ copy-cleared-requires c κs =
     let digit-count2 = c .before .before .before .before .before .before .digit-count2 in
     let if2 = c .before .before .before .before .before .if2 in
     let write-header = c .before .before .before .write-header in
-    let f = sheet-in (args .width) (args .height) (args .sheet .now) (args .out .now) (sheet-refusal .result) (sheet-refusal .ensures) (if1 .left) in
-    (f .0, (f .1, (sheet-there (args .width) (args .height) (args .sheet .now) (args .out .now) (sheet-refusal .result) (sheet-refusal .ensures) (if1 .left) _ (sizes _ _ _ _ (args .sheet .now) (digit-count .ensures) (digit-count2 .ensures)) (if2 .left) (write-header .result) (write-header .last .1 .1 .0) (write-header .ensures), part-room (args .width) (args .height) (args .sheet .now) (args .out .now) (sheet-refusal .result) (sheet-refusal .ensures) (if1 .left) _ (sizes _ _ _ _ (args .sheet .now) (digit-count .ensures) (digit-count2 .ensures)) (if2 .left) (write-header .result) (write-header .last .1 .1 .0) (write-header .ensures))))
-
-same-length : tie.Need-same-length
-same-length c = search needs
+    let f = sheet-in (args .width) (args .height) (args .sheet .now) (args .out .now) (sheet-refusal .result)
+    (sheet-refusal .ensures) (if1 .left) in (
+      f .0,
+      (
+        f .1,
+        (
+          sheet-there (args .width) (args .height) (args .sheet .now) (args .out .now) (sheet-refusal .result)
+              (sheet-refusal .ensures) (if1 .left) _ (sizes _ _ _ _ (args .sheet .now) (digit-count .ensures) (digit-count2 .ensures))
+              (if2 .left) (write-header .result) (write-header .last .1 .1 .0) (write-header .ensures),
+          part-room (args .width) (args .height) (args .sheet .now) (args .out .now) (sheet-refusal .result) (sheet-refusal .ensures)
+              (if1 .left) _ (sizes _ _ _ _ (args .sheet .now) (digit-count .ensures) (digit-count2 .ensures)) (if2 .left)
+              (write-header .result) (write-header .last .1 .1 .0) (write-header .ensures),
+        ),
+      ),
+    )
 
 returns-3 : tie.Need-returns-3
 returns-3 c =
@@ -106,24 +118,13 @@ returns-3 c =
     let if2 = c .before .before .before .before .before .before .before .before .if2 in
     let write-header = c .before .before .before .before .before .before .write-header in
     let copy-cleared = c .before .before .copy-cleared in
-    write-accepts (args .width) (args .height) (args .sheet .now) (args .out .now) (sheet-refusal .result) (sheet-refusal .ensures) (if1 .left) _ (sizes _ _ _ _ (args .sheet .now) (digit-count .ensures) (digit-count2 .ensures)) (if2 .left) (write-header .result) (write-header .last .1 .1 .0) (write-header .ensures) (copy-cleared .last .1 .1 .1 .0) (copy-cleared .ensures)
+    write-accepts (args .width) (args .height) (args .sheet .now) (args .out .now) (sheet-refusal .result)
+    (sheet-refusal .ensures) (if1 .left) _ (sizes _ _ _ _ (args .sheet .now) (digit-count .ensures) (digit-count2 .ensures))
+    (if2 .left) (write-header .result) (write-header .last .1 .1 .0) (write-header .ensures) (copy-cleared .last .1 .1 .1 .0)
+    (copy-cleared .ensures)
 
 pub write-pbm-spec : {M : Type 1} → statement M
 write-pbm-spec =
-    tie.close
-    (tie.spec
-    sheet-refusal-requires
-    returns
-    digit-count-requires
-    add-size
-    digit-count-requires-2
-    add-size-2
-    add-size-3
-    returns-2
-    write-header-requires
-    sub-copy-cleared
-    part-copy-cleared-start
-    part-copy-cleared-end
-    copy-cleared-requires
-    same-length
-    returns-3)
+    tie.close (tie.spec (λ c κs. search needs) returns (λ c κs. search needs) add-size (λ c κs. search needs) add-size-2
+    add-size-3 returns-2 write-header-requires sub-copy-cleared part-copy-cleared-start (λ c. search needs)
+    copy-cleared-requires (λ c. search needs) returns-3)

@@ -6,9 +6,6 @@ use mathlib.Core.Path.{refl}
 use Rattle.pgm.proofs.pgm_length.Statement.{statement}
 use Rattle.pgm.proofs.pgm_length.Tie as tie
 
-slice-aggregate-header-length : tie.Need-slice-aggregate-header-length
-slice-aggregate-header-length c = search needs
-
 header-length-requires : tie.Need-header-length-requires
 header-length-requires c κs = (refl, header-small _ _ _ _ _ _ (c .before .before .pre))
 
@@ -23,10 +20,4 @@ returns c = let s = text-size _ _ _ _ _ _ (c .before .before .before .before .pr
 
 pub pgm-length-spec : {M : Type 1} → statement M
 pgm-length-spec =
-    tie.close
-    (tie.spec
-    slice-aggregate-header-length
-    header-length-requires
-    levels-length-requires
-    add-result
-    returns)
+    tie.close (tie.spec (λ c. search needs) header-length-requires levels-length-requires add-result returns)

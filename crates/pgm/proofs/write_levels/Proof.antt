@@ -1,5 +1,6 @@
 -- The rows so far, with those left, make the whole.
-use Rattle.pgm.proofs.LevelLaws.{LevelsWriting, levels-start, levels-same, levels-inside, levels-row, levels-room, levels-turn, levels-end}
+use Rattle.pgm.proofs.LevelLaws.{LevelsWriting, levels-start, levels-same, levels-inside, levels-row, levels-room}
+use Rattle.pgm.proofs.LevelLaws.{levels-turn, levels-end}
 use borrow.Author.Needs.{needs}
 use native.Mathlib.Omega.{arith}
 use Prim.Native.Nat.{_-_}
@@ -24,12 +25,6 @@ add-stop c = let s = levels-inside (c .before .loop .inv) (c .loop-test .taken) 
 mul-write-row : tie.Need-mul-write-row Inv-loop μ-loop
 mul-write-row c = let s = levels-inside (c .before .loop .inv) (c .loop-test .taken) in omega arith
 
-sub-write-row : tie.Need-sub-write-row Inv-loop μ-loop
-sub-write-row c = search needs
-
-part-write-row-start : tie.Need-part-write-row-start Inv-loop μ-loop
-part-write-row-start c = search needs
-
 part-write-row-end : tie.Need-part-write-row-end Inv-loop μ-loop
 part-write-row-end c = levels-inside (c .before .loop .inv) (c .loop-test .taken)
 
@@ -40,9 +35,6 @@ write-row-requires c κs =
     let loop-test = c .before .before .loop-test in
     let turn = loop in
     (levels-row (turn .inv) (pre .0) (loop-test .taken), levels-room (turn .inv) (loop-test .taken))
-
-add-i : tie.Need-add-i Inv-loop μ-loop
-add-i c = search needs
 
 loop-less : tie.Need-loop-less Inv-loop μ-loop
 loop-less c = omega arith
@@ -62,19 +54,5 @@ returns c = levels-end (c .before .loop .inv) (c .loop-test .left)
 
 pub write-levels-spec : {M : Type 1} → statement M
 write-levels-spec =
-    tie.close
-    (tie.spec
-    Inv-loop
-    μ-loop
-    loop-holds
-    add-stop
-    mul-write-row
-    sub-write-row
-    part-write-row-start
-    part-write-row-end
-    write-row-requires
-    add-i
-    loop-less
-    loop-again
-    same-length
-    returns)
+    tie.close (tie.spec Inv-loop μ-loop loop-holds add-stop mul-write-row (λ c. search needs) (λ c. search needs)
+    part-write-row-end write-row-requires (λ c. search needs) loop-less loop-again same-length returns)

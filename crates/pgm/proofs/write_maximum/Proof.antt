@@ -6,16 +6,10 @@ use mathlib.Core.List.{[], _∷_}
 use Rattle.pgm.proofs.write_maximum.Statement.{statement}
 use Rattle.pgm.proofs.write_maximum.Tie as tie
 
-slice-aggregate-write-labelled : tie.Need-slice-aggregate-write-labelled
-slice-aggregate-write-labelled c = search needs
-
 write-labelled-requires : tie.Need-write-labelled-requires
 write-labelled-requires c κs =
     let start = c .before .before .before in
     room-first (10 ∷ digits (start .args .maximum)) (10 ∷ []) (start .args .at) (start .args .out .now) (start .pre)
-
-slice-aggregate-write-bytes : tie.Need-slice-aggregate-write-bytes
-slice-aggregate-write-bytes c = search needs
 
 write-bytes-requires : tie.Need-write-bytes-requires
 write-bytes-requires c κs =
@@ -24,23 +18,15 @@ write-bytes-requires c κs =
     let write-labelled = c .before .before .before .before .write-labelled in
     room-second (10 ∷ digits (args .maximum)) (10 ∷ []) (args .at) (args .out .now) pre (write-labelled .ensures)
 
-same-length : tie.Need-same-length
-same-length c = search needs
-
 returns : tie.Need-returns
 returns c =
     let args = c .before .before .before .before .before .before .before .before .before .before .before .args in
     let pre = c .before .before .before .before .before .before .before .before .before .before .before .pre in
     let write-labelled = c .before .before .before .before .before .before .before .write-labelled in
-    wrote-both (10 ∷ digits (args .maximum)) (10 ∷ []) (args .at) (args .out .now) pre (write-labelled .ensures) (c .before .before .write-bytes .ensures)
+    wrote-both (10 ∷ digits (args .maximum)) (10 ∷ []) (args .at) (args .out .now) pre (write-labelled .ensures)
+    (c .before .before .write-bytes .ensures)
 
 pub write-maximum-spec : {M : Type 1} → statement M
 write-maximum-spec =
-    tie.close
-    (tie.spec
-    slice-aggregate-write-labelled
-    write-labelled-requires
-    slice-aggregate-write-bytes
-    write-bytes-requires
-    same-length
-    returns)
+    tie.close (tie.spec (λ c. search needs) write-labelled-requires (λ c. search needs) write-bytes-requires
+    (λ c. search needs) returns)

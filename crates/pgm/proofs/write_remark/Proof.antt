@@ -7,13 +7,8 @@ use Rattle.pgm.proofs.write_remark.Tie as tie
 write-bytes-requires : tie.Need-write-bytes-requires
 write-bytes-requires c κs =
     let start = c .before .before .before in
-    remark-first (start .args .magic .now) (start .args .done) (start .args .due) (start .args .at) (start .args .out .now) (start .pre)
-
-slice-aggregate-write-pair : tie.Need-slice-aggregate-write-pair
-slice-aggregate-write-pair c = search needs
-
-slice-aggregate-write-pair-2 : tie.Need-slice-aggregate-write-pair-2
-slice-aggregate-write-pair-2 c = search needs
+    remark-first (start .args .magic .now) (start .args .done) (start .args .due) (start .args .at) (start .args .out .now)
+    (start .pre)
 
 write-pair-requires : tie.Need-write-pair-requires
 write-pair-requires c κs =
@@ -22,23 +17,15 @@ write-pair-requires c κs =
     let write-bytes = c .before .before .before .before .before .write-bytes in
     remark-second (args .magic .now) (args .done) (args .due) (args .at) (args .out .now) pre (write-bytes .ensures)
 
-same-length : tie.Need-same-length
-same-length c = search needs
-
 returns : tie.Need-returns
 returns c =
     let args = c .before .before .before .before .before .before .before .before .before .before .before .before .args in
     let pre = c .before .before .before .before .before .before .before .before .before .before .before .before .pre in
     let write-bytes = c .before .before .before .before .before .before .before .before .write-bytes in
-    remark-wrote (args .magic .now) (args .done) (args .due) (args .at) (args .out .now) pre (write-bytes .ensures) (c .before .before .write-pair .ensures)
+    remark-wrote (args .magic .now) (args .done) (args .due) (args .at) (args .out .now) pre (write-bytes .ensures)
+    (c .before .before .write-pair .ensures)
 
 pub write-remark-spec : {M : Type 1} → statement M
 write-remark-spec =
-    tie.close
-    (tie.spec
-    write-bytes-requires
-    slice-aggregate-write-pair
-    slice-aggregate-write-pair-2
-    write-pair-requires
-    same-length
-    returns)
+    tie.close (tie.spec write-bytes-requires (λ c. search needs) (λ c. search needs) write-pair-requires
+    (λ c. search needs) returns)

@@ -15,36 +15,16 @@ abbrev μ-loop : tie.MeasureT-loop
 μ-loop rest start out₀ at column₀ end₀ i₀ out column end i = length rest - i
 
 loop-holds : tie.Need-loop-holds Inv-loop μ-loop
-loop-holds c = let s = c .before .before in rest-start (s .args .rest .now) (s .args .start) (s .args .at) (s .args .out .now) (s .pre .0) (s .pre .1)
-
-mul-wide : tie.Need-mul-wide Inv-loop μ-loop
-mul-wide c = search needs
-
-shared-slice-read-wide : tie.Need-shared-slice-read-wide Inv-loop μ-loop
-shared-slice-read-wide c = search needs
-
-wide-requires : tie.Need-wide-requires Inv-loop μ-loop
-wide-requires c κs = search needs
+loop-holds c = let s = c .before .before in
+    rest-start (s .args .rest .now) (s .args .start) (s .args .at) (s .args .out .now) (s .pre .0) (s .pre .1)
 
 write-parted-requires : tie.Need-write-parted-requires Inv-loop μ-loop
 write-parted-requires c κs =
-    let turn = c .before .before .before .before .loop in
-    (turn .inv .bounded, rest-room (turn .inv) (c .before .wide .result) (c .before .wide .ensures .0) (c .before .before .before .loop-test .taken))
-
-sub-column-after : tie.Need-sub-column-after Inv-loop μ-loop
-sub-column-after c = search needs
-
-sub-column-after-2 : tie.Need-sub-column-after-2 Inv-loop μ-loop
-sub-column-after-2 c = search needs
-
-column-after-requires : tie.Need-column-after-requires Inv-loop μ-loop
-column-after-requires c κs = search needs
-
-add-i : tie.Need-add-i Inv-loop μ-loop
-add-i c = search needs
-
-loop-less : tie.Need-loop-less Inv-loop μ-loop
-loop-less c = search needs
+    let turn = c .before .before .before .before .loop in (
+      turn .inv .bounded,
+      rest-room (turn .inv) (c .before .wide .result) (c .before .wide .ensures .0)
+          (c .before .before .before .loop-test .taken),
+    )
 
 loop-again : tie.Need-loop-again Inv-loop μ-loop
 loop-again c =
@@ -54,13 +34,15 @@ loop-again c =
     let write-parted = c .before .before .before .write-parted in
     let widened = wide in
     let parted = write-parted in
-    rest-turn (loop .inv) (widened .result) (parted .last .1 .1 .0) (parted .result) (c .column-after .result) (widened .ensures .0) (loop-test .taken) (parted .ensures) (c .column-after .ensures)
+    rest-turn (loop .inv) (widened .result) (parted .last .1 .1 .0) (parted .result) (c .column-after .result)
+    (widened .ensures .0) (loop-test .taken) (parted .ensures) (c .column-after .ensures)
 
 slice-write-out : tie.Need-slice-write-out Inv-loop μ-loop
 slice-write-out c = rest-last (c .before .loop .inv) (c .loop-test .left)
 
 add-result : tie.Need-add-result Inv-loop μ-loop
-add-result c = let l = rest-last (c .before .loop .inv) (c .loop-test .left) in let s = rest-same (c .before .loop .inv) in omega arith
+add-result c = let l = rest-last (c .before .loop .inv) (c .loop-test .left) in let s = rest-same (c .before .loop .inv) in
+    omega arith
 
 same-length : tie.Need-same-length Inv-loop μ-loop
 same-length c = length-set (c .before .loop .out) (c .before .loop .end) _ ∙ rest-same (c .before .loop .inv)
@@ -70,22 +52,6 @@ returns c = rest-end (c .before .loop .inv) (c .loop-test .left)
 
 pub write-rest-spec : {M : Type 1} → statement M
 write-rest-spec =
-    tie.close
-    (tie.spec
-    Inv-loop
-    μ-loop
-    loop-holds
-    mul-wide
-    shared-slice-read-wide
-    wide-requires
-    write-parted-requires
-    sub-column-after
-    sub-column-after-2
-    column-after-requires
-    add-i
-    loop-less
-    loop-again
-    slice-write-out
-    add-result
-    same-length
-    returns)
+    tie.close (tie.spec Inv-loop μ-loop loop-holds (λ c. search needs) (λ c. search needs) (λ c κs. search needs)
+    write-parted-requires (λ c. search needs) (λ c. search needs) (λ c κs. search needs) (λ c. search needs)
+    (λ c. search needs) loop-again slice-write-out add-result same-length returns)

@@ -5,12 +5,6 @@ use borrow.Author.Needs.{needs}
 use Rattle.pgm.proofs.write_sizes.Statement.{statement}
 use Rattle.pgm.proofs.write_sizes.Tie as tie
 
-slice-aggregate-write-pair : tie.Need-slice-aggregate-write-pair
-slice-aggregate-write-pair c = search needs
-
-slice-aggregate-write-pair-2 : tie.Need-slice-aggregate-write-pair-2
-slice-aggregate-write-pair-2 c = search needs
-
 write-pair-requires : tie.Need-write-pair-requires
 write-pair-requires c κs =
     let args = c .before .before .before .before .args in
@@ -22,25 +16,18 @@ write-maximum-requires c κs =
     let args = c .before .before .before .before .before .before .before .before .args in
     let pre = c .before .before .before .before .before .before .before .before .pre in
     let write-pair = c .before .before .before .write-pair in
-    room-second (sidesPiece (args .width) (args .height)) (maximumPiece (args .maximum)) (args .at) (args .out .now) pre (write-pair .ensures)
-
-same-length : tie.Need-same-length
-same-length c = search needs
+    room-second (sidesPiece (args .width) (args .height)) (maximumPiece (args .maximum)) (args .at) (args .out .now) pre
+    (write-pair .ensures)
 
 returns : tie.Need-returns
 returns c =
     let args = c .before .before .before .before .before .before .before .before .before .before .before .args in
     let pre = c .before .before .before .before .before .before .before .before .before .before .before .pre in
     let write-pair = c .before .before .before .before .before .before .write-pair in
-    wrote-both (sidesPiece (args .width) (args .height)) (maximumPiece (args .maximum)) (args .at) (args .out .now) pre (write-pair .ensures) (c .before .before .write-maximum .ensures)
+    wrote-both (sidesPiece (args .width) (args .height)) (maximumPiece (args .maximum)) (args .at) (args .out .now) pre
+    (write-pair .ensures) (c .before .before .write-maximum .ensures)
 
 pub write-sizes-spec : {M : Type 1} → statement M
 write-sizes-spec =
-    tie.close
-    (tie.spec
-    slice-aggregate-write-pair
-    slice-aggregate-write-pair-2
-    write-pair-requires
-    write-maximum-requires
-    same-length
-    returns)
+    tie.close (tie.spec (λ c. search needs) (λ c. search needs) write-pair-requires write-maximum-requires
+    (λ c. search needs) returns)

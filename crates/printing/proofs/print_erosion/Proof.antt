@@ -13,34 +13,18 @@ use mathlib.Core.Path.{refl, sym}
 use Rattle.printing.proofs.print_erosion.Statement.{statement}
 use Rattle.printing.proofs.print_erosion.Tie as tie
 
-write-refused-requires : tie.Need-write-refused-requires
-write-refused-requires c κs = search needs
-
-same-length : tie.Need-same-length
-same-length c = search needs
-
 returns : tie.Need-returns
 returns c =
     let if1 = c .before .before .before .before .if1 in
     let write-refused = c .before .before .write-refused in
-    prints-as (write-refused .result) (write-refused .last .1 .0) (too-long (c .before .before .before .before .before .before .before .before .before .before .args .input .now) (if1 .taken)) (write-refused .ensures)
-
-read-pbm-requires : tie.Need-read-pbm-requires
-read-pbm-requires c κs = search needs
-
-cast-write-refused : tie.Need-cast-write-refused
-cast-write-refused c = search needs
+    prints-as (write-refused .result) (write-refused .last .1 .0)
+    (too-long (c .before .before .before .before .before .before .before .before .before .before .args .input .now) (if1 .taken))
+    (write-refused .ensures)
 
 write-refused-requires-2 : tie.Need-write-refused-requires-2
 write-refused-requires-2 c κs =
     let pre = c .before .before .before .before .before .before .before .before .before .before .before .before .pre in
     (omega arith, pre .1 .out-room)
-
-same-length-2 : tie.Need-same-length-2
-same-length-2 c = search needs
-
-same-length-3 : tie.Need-same-length-3
-same-length-3 c = search needs
 
 returns-2 : tie.Need-returns-2
 returns-2 c =
@@ -50,7 +34,9 @@ returns-2 c =
     let read-pbm = c .before .before .before .before .before .before .before .read-pbm in
     let if2 = c .before .before .before .before .if2 in
     let write-refused2 = c .before .before .write-refused2 in
-    prints-as (write-refused2 .result) (write-refused2 .last .1 .0) (read-refused (args .input .now) (args .sheet .now) (if1 .left) (pre .0) (read-pbm .result .refusal) (read-pbm .result .width) (read-pbm .result .height) (read-pbm .last .1 .0) (read-pbm .ensures) (if2 .taken)) (write-refused2 .ensures)
+    prints-as (write-refused2 .result) (write-refused2 .last .1 .0)
+    (read-refused (args .input .now) (args .sheet .now) (if1 .left) (pre .0) (read-pbm .result .refusal) (read-pbm .result .width)
+    (read-pbm .result .height) (read-pbm .last .1 .0) (read-pbm .ensures) (if2 .taken)) (write-refused2 .ensures)
 
 row-bytes-requires : tie.Need-row-bytes-requires
 row-bytes-requires c κs =
@@ -58,7 +44,9 @@ row-bytes-requires c κs =
     let pre = c .before .before .before .before .before .before .before .before .before .before .before .pre in
     let if1 = c .before .before .before .before .before .if1 in
     let read-pbm = c .before .before .before .read-pbm in
-    read-found (args .input .now) (args .sheet .now) (if1 .left) (pre .0) (read-pbm .result .refusal) (read-pbm .result .width) (read-pbm .result .height) (read-pbm .last .1 .0) (read-pbm .ensures) (c .if2 .left) (rowBytes (read-pbm .result .width)) refl .width-most
+    read-found (args .input .now) (args .sheet .now) (if1 .left) (pre .0) (read-pbm .result .refusal) (read-pbm .result .width)
+    (read-pbm .result .height) (read-pbm .last .1 .0) (read-pbm .ensures) (c .if2 .left)
+    (rowBytes (read-pbm .result .width)) refl .width-most
 
 mul-size : tie.Need-mul-size
 mul-size c =
@@ -66,7 +54,9 @@ mul-size c =
     let pre = c .before .before .before .before .before .before .before .before .before .before .before .before .pre in
     let if1 = c .before .before .before .before .before .before .if1 in
     let read-pbm = c .before .before .before .before .read-pbm in
-    let l = read-found (args .input .now) (args .sheet .now) (if1 .left) (pre .0) (read-pbm .result .refusal) (read-pbm .result .width) (read-pbm .result .height) (read-pbm .last .1 .0) (read-pbm .ensures) (c .before .if2 .left) (c .row-bytes .result) (c .row-bytes .ensures) .few in
+    let l = read-found (args .input .now) (args .sheet .now) (if1 .left) (pre .0) (read-pbm .result .refusal)
+    (read-pbm .result .width) (read-pbm .result .height) (read-pbm .last .1 .0) (read-pbm .ensures) (c .before .if2 .left)
+    (c .row-bytes .result) (c .row-bytes .ensures) .few in
     omega arith
 
 slice-reshare-prefix-print-sheet : tie.Need-slice-reshare-prefix-print-sheet
@@ -75,7 +65,9 @@ slice-reshare-prefix-print-sheet c =
     let pre = c .before .before .before .before .before .before .before .before .before .before .before .before .pre in
     let if1 = c .before .before .before .before .before .before .if1 in
     let read-pbm = c .before .before .before .before .read-pbm in
-    read-found (args .input .now) (args .sheet .now) (if1 .left) (pre .0) (read-pbm .result .refusal) (read-pbm .result .width) (read-pbm .result .height) (read-pbm .last .1 .0) (read-pbm .ensures) (c .before .if2 .left) (c .row-bytes .result) (c .row-bytes .ensures) .fits
+    read-found (args .input .now) (args .sheet .now) (if1 .left) (pre .0) (read-pbm .result .refusal) (read-pbm .result .width)
+    (read-pbm .result .height) (read-pbm .last .1 .0) (read-pbm .ensures) (c .before .if2 .left) (c .row-bytes .result)
+    (c .row-bytes .ensures) .fits
 
 slice-aggregate-print-sheet : tie.Need-slice-aggregate-print-sheet
 slice-aggregate-print-sheet c =
@@ -84,7 +76,10 @@ slice-aggregate-print-sheet c =
     let if1 = c .before .before .before .before .before .before .before .if1 in
     let read-pbm = c .before .before .before .before .before .read-pbm in
     let row-bytes = c .before .row-bytes in
-    sym (length-take-le (read-pbm .result .height * row-bytes .result) (read-pbm .last .1 .0) (read-found (args .input .now) (args .sheet .now) (if1 .left) (pre .0) (read-pbm .result .refusal) (read-pbm .result .width) (read-pbm .result .height) (read-pbm .last .1 .0) (read-pbm .ensures) (c .before .before .if2 .left) (row-bytes .result) (row-bytes .ensures) .fits))
+    sym (length-take-le (read-pbm .result .height * row-bytes .result) (read-pbm .last .1 .0)
+    (read-found (args .input .now) (args .sheet .now) (if1 .left) (pre .0) (read-pbm .result .refusal) (read-pbm .result .width)
+    (read-pbm .result .height) (read-pbm .last .1 .0) (read-pbm .ensures) (c .before .before .if2 .left) (row-bytes .result)
+    (row-bytes .ensures) .fits))
 
 print-sheet-requires : tie.Need-print-sheet-requires
 print-sheet-requires c κs =
@@ -93,20 +88,12 @@ print-sheet-requires c κs =
     let if1 = c .before .before .before .before .before .before .before .before .before .before .if1 in
     let read-pbm = c .before .before .before .before .before .before .before .before .read-pbm in
     let if2 = c .before .before .before .before .before .if2 in
-    let row-bytes = c .before .before .before .before .row-bytes in
-    (read-found (args .input .now) (args .sheet .now) (if1 .left) (pre .0) (read-pbm .result .refusal) (read-pbm .result .width) (read-pbm .result .height) (read-pbm .last .1 .0) (read-pbm .ensures) (if2 .left) (row-bytes .result) (row-bytes .ensures) .sound, pre .1)
-
-same-length-4 : tie.Need-same-length-4
-same-length-4 c = search needs
-
-same-length-5 : tie.Need-same-length-5
-same-length-5 c = search needs
-
-same-length-6 : tie.Need-same-length-6
-same-length-6 c = search needs
-
-same-length-7 : tie.Need-same-length-7
-same-length-7 c = search needs
+    let row-bytes = c .before .before .before .before .row-bytes in (
+      read-found (args .input .now) (args .sheet .now) (if1 .left) (pre .0) (read-pbm .result .refusal) (read-pbm .result .width)
+          (read-pbm .result .height) (read-pbm .last .1 .0) (read-pbm .ensures) (if2 .left) (row-bytes .result)
+          (row-bytes .ensures) .sound,
+      pre .1,
+    )
 
 returns-3 : tie.Need-returns-3
 returns-3 c =
@@ -117,28 +104,14 @@ returns-3 c =
     let if2 = c .before .before .before .before .before .before .before .before .before .before .before .before .if2 in
     let row-bytes = c .before .before .before .before .before .before .before .before .before .before .before .row-bytes in
     let print-sheet = c .before .before .before .before .before .before .print-sheet in
-    prints-as (print-sheet .result) (print-sheet .last .1 .1 .1 .1 .1 .0) (read-found (args .input .now) (args .sheet .now) (if1 .left) (pre .0) (read-pbm .result .refusal) (read-pbm .result .width) (read-pbm .result .height) (read-pbm .last .1 .0) (read-pbm .ensures) (if2 .left) (row-bytes .result) (row-bytes .ensures) .text) (print-sheet .ensures)
+    prints-as (print-sheet .result) (print-sheet .last .1 .1 .1 .1 .1 .0)
+    (read-found (args .input .now) (args .sheet .now) (if1 .left) (pre .0) (read-pbm .result .refusal) (read-pbm .result .width)
+    (read-pbm .result .height) (read-pbm .last .1 .0) (read-pbm .ensures) (if2 .left) (row-bytes .result)
+    (row-bytes .ensures) .text) (print-sheet .ensures)
 
 pub print-erosion-spec : {M : Type 1} → statement M
 print-erosion-spec =
-    tie.close
-    (tie.spec
-    write-refused-requires
-    same-length
-    returns
-    read-pbm-requires
-    cast-write-refused
-    write-refused-requires-2
-    same-length-2
-    same-length-3
-    returns-2
-    row-bytes-requires
-    mul-size
-    slice-reshare-prefix-print-sheet
-    slice-aggregate-print-sheet
-    print-sheet-requires
-    same-length-4
-    same-length-5
-    same-length-6
-    same-length-7
-    returns-3)
+    tie.close (tie.spec (λ c κs. search needs) (λ c. search needs) returns (λ c κs. search needs) (λ c. search needs)
+    write-refused-requires-2 (λ c. search needs) (λ c. search needs) returns-2 row-bytes-requires mul-size
+    slice-reshare-prefix-print-sheet slice-aggregate-print-sheet print-sheet-requires (λ c. search needs)
+    (λ c. search needs) (λ c. search needs) (λ c. search needs) returns-3)

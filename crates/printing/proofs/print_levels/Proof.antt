@@ -5,21 +5,6 @@ use lib.ListN.{length}
 use Rattle.printing.proofs.print_levels.Statement.{statement}
 use Rattle.printing.proofs.print_levels.Tie as tie
 
-run-erosion-requires : tie.Need-run-erosion-requires
-run-erosion-requires c κs = search needs
-
-write-pgm-requires : tie.Need-write-pgm-requires
-write-pgm-requires c κs = search needs
-
-same-length : tie.Need-same-length
-same-length c = search needs
-
-same-length-2 : tie.Need-same-length-2
-same-length-2 c = search needs
-
-same-length-3 : tie.Need-same-length-3
-same-length-3 c = search needs
-
 returns : tie.Need-returns
 returns c =
     let args = c .before .before .before .before .before .before .before .before .before .before .before .before .before .before .before .before .args in
@@ -27,15 +12,10 @@ returns c =
     let run-erosion = c .before .before .before .before .before .before .before .before .before .run-erosion in
     let write-pgm = c .before .before .write-pgm in
     picture-prints (args .width) (args .height) (args .sheet .now) (pre .0) (pre .1 .1 .1 .0) (args .out .now) (pre .1 .1 .1 .1)
-    (run-erosion .result) (run-erosion .last .1 .1 .1 .1 .0) (run-erosion .ensures) (write-pgm .result .refusal) (write-pgm .result .length) (write-pgm .last .1 .1 .0) (write-pgm .ensures)
+    (run-erosion .result) (run-erosion .last .1 .1 .1 .1 .0) (run-erosion .ensures) (write-pgm .result .refusal)
+    (write-pgm .result .length) (write-pgm .last .1 .1 .0) (write-pgm .ensures)
 
 pub print-levels-spec : {M : Type 1} → statement M
 print-levels-spec =
-    tie.close
-    (tie.spec
-    run-erosion-requires
-    write-pgm-requires
-    same-length
-    same-length-2
-    same-length-3
-    returns)
+    tie.close (tie.spec (λ c κs. search needs) (λ c κs. search needs) (λ c. search needs) (λ c. search needs)
+    (λ c. search needs) returns)

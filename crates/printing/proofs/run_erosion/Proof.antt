@@ -4,24 +4,6 @@ use borrow.Author.Needs.{needs}
 use Rattle.printing.proofs.run_erosion.Statement.{statement}
 use Rattle.printing.proofs.run_erosion.Tie as tie
 
-slice-aggregate-start-erosion : tie.Need-slice-aggregate-start-erosion
-slice-aggregate-start-erosion c = search needs
-
-start-erosion-requires : tie.Need-start-erosion-requires
-start-erosion-requires c κs = search needs
-
-continue-run-requires : tie.Need-continue-run-requires
-continue-run-requires c κs = search needs
-
-collect-requires : tie.Need-collect-requires
-collect-requires c κs = search needs
-
-same-length : tie.Need-same-length
-same-length c = search needs
-
-same-length-2 : tie.Need-same-length-2
-same-length-2 c = search needs
-
 returns : tie.Need-returns
 returns c =
     let args = c .before .before .before .before .before .before .before .before .before .before .before .before .before .before .before .before .before .before .before .args in
@@ -29,18 +11,19 @@ returns c =
     let start-erosion = c .before .before .before .before .before .before .before .before .before .before .before .before .before .start-erosion in
     let continue-run = c .before .before .before .before .before .before .before .before .continue-run in
     let collect = c .before .before .collect in
-    let started = start-gives (args .width) (args .height) (args .sheet .now) (pre .0) (args .levels .now) (pre .1 .0) (start-erosion .result .refusal) (start-erosion .result .run) (start-erosion .last .1 .1 .1 .1 .1 .0) (start-erosion .ensures) in
-    let continued = continue-gives (args .width) (args .height) (args .sheet .now) (pre .0) (start-erosion .result .run) (start-erosion .last .1 .1 .1 .1 .1 .0) started (continue-run .result .refusal) (continue-run .result .run) (continue-run .result .done) (continue-run .last .1 .0) (continue-run .ensures) in
-    (continued .0, collect-gives (args .width) (args .height) (args .sheet .now) (pre .0) (continue-run .result .run) (continue-run .last .1 .0) continued (args .collected .now) (pre .1 .1) (collect .result) (collect .last .1 .1 .0) (collect .ensures))
+    let started = start-gives (args .width) (args .height) (args .sheet .now) (pre .0) (args .levels .now) (pre .1 .0)
+    (start-erosion .result .refusal) (start-erosion .result .run) (start-erosion .last .1 .1 .1 .1 .1 .0)
+    (start-erosion .ensures) in
+    let continued = continue-gives (args .width) (args .height) (args .sheet .now) (pre .0) (start-erosion .result .run)
+    (start-erosion .last .1 .1 .1 .1 .1 .0) started (continue-run .result .refusal) (continue-run .result .run)
+    (continue-run .result .done) (continue-run .last .1 .0) (continue-run .ensures) in (
+      continued .0,
+      collect-gives (args .width) (args .height) (args .sheet .now) (pre .0) (continue-run .result .run)
+          (continue-run .last .1 .0) continued (args .collected .now) (pre .1 .1) (collect .result) (collect .last .1 .1 .0)
+          (collect .ensures),
+    )
 
 pub run-erosion-spec : {M : Type 1} → statement M
 run-erosion-spec =
-    tie.close
-    (tie.spec
-    slice-aggregate-start-erosion
-    start-erosion-requires
-    continue-run-requires
-    collect-requires
-    same-length
-    same-length-2
-    returns)
+    tie.close (tie.spec (λ c. search needs) (λ c κs. search needs) (λ c κs. search needs) (λ c κs. search needs)
+    (λ c. search needs) (λ c. search needs) returns)

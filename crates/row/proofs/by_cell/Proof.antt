@@ -18,7 +18,9 @@ own : (c : tie.Start) → c .args .row * c .args .width + c .args .width ≤ len
 own c = rw (c .pre .0) (row-end (c .args .width) (c .args .row) (c .args .rows) (c .pre .1 .0))
 
 -- so does the partners' row, where it is within the area
-in-area : (c : tie.Then2) → within (c .before .before .before .before .before .args .rows) (c .before .before .before .before .before .args .row + c .before .before .before .before .before .args .k / 7) ≡ true
+in-area : (c : tie.Then2)
+    → within (c .before .before .before .before .before .args .rows)
+    (c .before .before .before .before .before .args .row + c .before .before .before .before .before .args .k / 7) ≡ true
 in-area c = sym (c .before .inside .ensures) ∙ c .if2 .taken
 
 met : (c : tie.After-by-columns-arg) →
@@ -28,29 +30,15 @@ met c =
     let s = c .before .before .before .before .before .before in
     rw (s .pre .0) (row-inside (s .args .width) (s .args .rows) (s .args .row + s .args .k / 7) (in-area (c .before)))
 
-mul-if1 : tie.Need-mul-if1
-mul-if1 c = search needs
-
-index-1-if1 : tie.Need-index-1-if1
-index-1-if1 c = search needs
-
-index-2-if1 : tie.Need-index-2-if1
-index-2-if1 c = search needs
-
 returns : tie.Need-returns
 unfolding cellNumber
 returns c =
     let s = c .before .before .before in
-    pass-unset (the-area s) (s .args .row) (s .args .k) (s .args .part .now) (c .if1 .taken) (λ i. c .before .before .slice-known .given i .fits)
+    pass-unset (the-area s) (s .args .row) (s .args .k) (s .args .part .now) (c .if1 .taken)
+    (λ i. c .before .before .slice-known .given i .fits)
 
 mul-start : tie.Need-mul-start
 mul-start c = omega (arith, own (c .before .before .before))
-
-add-met : tie.Need-add-met
-add-met c = search needs
-
-inside-requires : tie.Need-inside-requires
-inside-requires c κs = search needs
 
 sub-by-columns : tie.Need-sub-by-columns
 sub-by-columns c = met c .0
@@ -60,48 +48,35 @@ mul-by-columns c = omega (arith, met c .1)
 
 by-columns-requires : tie.Need-by-columns-requires
 by-columns-requires c κs =
-    let s = c .before .before .before .before .before .before in
-    (omega (arith, own s), (omega (arith, met c .1), row-apart (s .args .width) (s .args .rows) (s .args .row) (s .args .k) (in-area (c .before)) (s .pre .1 .1 .1 .1)))
-
-same-length : tie.Need-same-length
-same-length c = search needs
+    let s = c .before .before .before .before .before .before in (
+      omega (arith, own s),
+      (
+        omega (arith, met c .1),
+        row-apart (s .args .width) (s .args .rows) (s .args .row) (s .args .k) (in-area (c .before)) (s .pre .1 .1 .1 .1),
+      ),
+    )
 
 returns-2 : tie.Need-returns-2
 unfolding cellNumber
 returns-2 c =
     let branch = c .before .before .before .before in
     let s = branch .before .before .before .before .before in
-    pass-in (the-area s) (s .args .row) (s .args .k) (s .args .part .now) _ (branch .before .before .if1 .left) (in-area branch) (c .before .before .by-columns .ensures)
+    pass-in (the-area s) (s .args .row) (s .args .k) (s .args .part .now) _ (branch .before .before .if1 .left) (in-area branch)
+    (c .before .before .by-columns .ensures)
 
 lower-to-requires : tie.Need-lower-to-requires
 lower-to-requires c κs = omega (arith, own (c .before .before .before .before .before .before))
-
-same-length-2 : tie.Need-same-length-2
-same-length-2 c = search needs
 
 returns-3 : tie.Need-returns-3
 unfolding cellNumber
 returns-3 c =
     let branch = c .before .before .before .before in
     let s = branch .before .before .before .before .before in
-    pass-beyond (the-area s) (s .args .row) (s .args .k) (s .args .part .now) _ (branch .before .before .if1 .left) (sym (branch .before .inside .ensures) ∙ branch .if2 .left) (c .before .before .lower-to .ensures)
+    pass-beyond (the-area s) (s .args .row) (s .args .k) (s .args .part .now) _ (branch .before .before .if1 .left)
+    (sym (branch .before .inside .ensures) ∙ branch .if2 .left) (c .before .before .lower-to .ensures)
 
 pub by-cell-spec : {M : Type 1} → statement M
 by-cell-spec =
-    tie.close
-    (tie.spec
-    mul-if1
-    index-1-if1
-    index-2-if1
-    returns
-    mul-start
-    add-met
-    inside-requires
-    sub-by-columns
-    mul-by-columns
-    by-columns-requires
-    same-length
-    returns-2
-    lower-to-requires
-    same-length-2
-    returns-3)
+    tie.close (tie.spec (λ c. search needs) (λ c. search needs) (λ c. search needs) returns mul-start
+    (λ c. search needs) (λ c κs. search needs) sub-by-columns mul-by-columns by-columns-requires (λ c. search needs)
+    returns-2 lower-to-requires (λ c. search needs) returns-3)

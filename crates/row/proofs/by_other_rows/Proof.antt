@@ -1,4 +1,5 @@
--- The loop's invariant: the row has had the pass of the first n cells. Its partners' rows are never written, so they give what they gave at entry.
+-- The loop's invariant: the row has had the pass of the first n cells. Its partners' rows are never written, so they give what
+-- they gave at entry.
 use borrow.Author.Needs.{needs}
 use native.Mathlib.Omega.{arith}
 use Prim.Native.Nat.{_+_, _*_, _-_, _≤_, _<_}
@@ -14,7 +15,8 @@ use Rattle.row.proofs.by_other_rows.Tie as tie
 abbrev Inv-loop : tie.InvT-loop
 Inv-loop part₀ width rows row upward cells beyond first n₀ part n =
     (n ≤ 21)
-    × Pass (row * width) width (λ col. least (record { width = width; height = rows; beyond = beyond; cells = cells }) part₀ row col first n) part₀ part
+    × Pass (row * width) width
+    (λ col. least (record { width = width; height = rows; beyond = beyond; cells = cells }) part₀ row col first n) part₀ part
 
 abbrev μ-loop : tie.MeasureT-loop
 μ-loop part₀ width rows row upward cells beyond first n₀ part n = 21 - n
@@ -28,9 +30,6 @@ cell : (c : tie.In-loop Inv-loop μ-loop) →
     (first + n < 49) × ((first + (n + 1) ≤ 21) ⊎ (28 ≤ first))
 cell c = other-cells _ _ _ (c .before .before .first-other .ensures) (omega arith)
 
-first-other-requires : tie.Need-first-other-requires Inv-loop μ-loop
-first-other-requires c κs = search needs
-
 loop-holds : tie.Need-loop-holds Inv-loop μ-loop
 unfolding least
 loop-holds c = (omega arith, pass-none _ _ _ (λ i. c .before .slice-known .given i .fits))
@@ -41,25 +40,27 @@ add-by-cell c = omega (arith, cell (c .before) .0)
 by-cell-requires : tie.Need-by-cell-requires Inv-loop μ-loop
 by-cell-requires c κs =
     let l = c .before .before in
-    let s = l .before .before .before in
-    (l .loop .inv .1 .size ∙ s .pre .0, (s .pre .1 .0, (s .pre .1 .1, (cell (c .before) .0, ⊎-elim (λ h. inl (omega arith)) (λ h. inr (omega arith)) (cell (c .before) .1)))))
-
-add-n : tie.Need-add-n Inv-loop μ-loop
-add-n c = search needs
-
-loop-less : tie.Need-loop-less Inv-loop μ-loop
-loop-less c = search needs
+    let s = l .before .before .before in (
+      l .loop .inv .1 .size ∙ s .pre .0,
+      (
+        s .pre .1 .0,
+        (
+          s .pre .1 .1,
+          (cell (c .before) .0, ⊎-elim (λ h. inl (omega arith)) (λ h. inr (omega arith)) (cell (c .before) .1)),
+        ),
+      ),
+    )
 
 loop-again : tie.Need-loop-again Inv-loop μ-loop
 loop-again c =
     let by-cell = c .before .before .by-cell in
     let turn = c .before .before .before .before in
     let l = turn .before .loop in
-    let s = turn .before .before .before .before in
-    (omega arith, pass-cell (the-area s) (s .args .row) _ (l .n) (s .args .part .now) (l .part) (by-cell .last .0) (cell turn .1) (l .inv .1) (by-cell .ensures))
-
-same-length : tie.Need-same-length Inv-loop μ-loop
-same-length c = search needs
+    let s = turn .before .before .before .before in (
+      omega arith,
+      pass-cell (the-area s) (s .args .row) _ (l .n) (s .args .part .now) (l .part) (by-cell .last .0) (cell turn .1)
+          (l .inv .1) (by-cell .ensures),
+    )
 
 returns : tie.Need-returns Inv-loop μ-loop
 returns c =
@@ -68,16 +69,5 @@ returns c =
 
 pub by-other-rows-spec : {M : Type 1} → statement M
 by-other-rows-spec =
-    tie.close
-    (tie.spec
-    Inv-loop
-    μ-loop
-    first-other-requires
-    loop-holds
-    add-by-cell
-    by-cell-requires
-    add-n
-    loop-less
-    loop-again
-    same-length
-    returns)
+    tie.close (tie.spec Inv-loop μ-loop (λ c κs. search needs) loop-holds add-by-cell by-cell-requires
+    (λ c. search needs) (λ c. search needs) loop-again (λ c. search needs) returns)

@@ -13,52 +13,24 @@ Inv-loop part₀ width start upward one two three beyond from-near from-middle f
     (t ≤ width) × ((length part ≡ length part₀) × Kept upward width start beyond one two three t near middle far part₀ part)
 
 abbrev μ-loop : tie.MeasureT-loop
-μ-loop part₀ width start upward one two three beyond from-near from-middle from-far near₀ middle₀ far₀ t₀ part near middle far t = width - t
+μ-loop part₀ width start upward one two three beyond from-near from-middle from-far near₀ middle₀ far₀ t₀ part near middle far t =
+    width - t
 
 -- the column lies in the row
-in-row : (c : tie.After-column Inv-loop μ-loop) → c .column .result < c .before .before .before .before .before .before .before .before .args .width
+in-row : (c : tie.After-column Inv-loop μ-loop)
+    → c .column .result < c .before .before .before .before .before .before .before .before .args .width
 in-row c = rw (c .column .ensures) (place-in _ _ _ (omega arith))
-
-step-of-requires : tie.Need-step-of-requires Inv-loop μ-loop
-step-of-requires c κs = search needs
-
-step-of-requires-2 : tie.Need-step-of-requires-2 Inv-loop μ-loop
-step-of-requires-2 c κs = search needs
-
-step-of-requires-3 : tie.Need-step-of-requires-3 Inv-loop μ-loop
-step-of-requires-3 c κs = search needs
-
-wide-requires : tie.Need-wide-requires Inv-loop μ-loop
-wide-requires c κs = search needs
 
 loop-holds : tie.Need-loop-holds Inv-loop μ-loop
 loop-holds c =
     let small : c .before .before .before .before .before .args .beyond ≤ 65535 = omega arith in
     (omega arith, (refl, rw (c .wide .ensures .0) (kept-start _ _ _ _ _ _ _ _ small)))
 
-column-requires : tie.Need-column-requires Inv-loop μ-loop
-column-requires c κs = search needs
-
 add-at : tie.Need-add-at Inv-loop μ-loop
 add-at c = omega (arith, in-row c)
 
-add-lower-to-least : tie.Need-add-lower-to-least Inv-loop μ-loop
-add-lower-to-least c = search needs
-
-add-lower-to-least-2 : tie.Need-add-lower-to-least-2 Inv-loop μ-loop
-add-lower-to-least-2 c = search needs
-
-add-lower-to-least-3 : tie.Need-add-lower-to-least-3 Inv-loop μ-loop
-add-lower-to-least-3 c = search needs
-
 lower-to-least-requires : tie.Need-lower-to-least-requires Inv-loop μ-loop
 lower-to-least-requires c κs = omega (arith, in-row (c .before))
-
-add-t : tie.Need-add-t Inv-loop μ-loop
-add-t c = search needs
-
-loop-less : tie.Need-loop-less Inv-loop μ-loop
-loop-less c = search needs
 
 loop-again : tie.Need-loop-again Inv-loop μ-loop
 loop-again c =
@@ -67,17 +39,20 @@ loop-again c =
     let steps = l .before .before in
     let a = steps .before .before .before .before .args in
     let low = c .before .before .lower-to-least in
-    let lowest = rw (col .column .ensures, steps .before .before .step-of .ensures .0, steps .before .step-of2 .ensures .0, steps .step-of3 .ensures .0) at (low .ensures) in (
+    let lowest = rw (
+      col .column .ensures,
+      steps .before .before .step-of .ensures .0,
+      steps .before .step-of2 .ensures .0,
+      steps .step-of3 .ensures .0,
+    ) at (low .ensures) in (
       omega arith,
       (
         low .kept .0 ∙ l .loop .inv .1 .0,
-        kept-turn (a .upward) (a .width) (a .start) (a .beyond) (a .one) (a .two) (a .three) (l .loop .t) (l .loop .near) (l .loop .middle) (l .loop .far) (low .result)
+        kept-turn (a .upward) (a .width) (a .start) (a .beyond) (a .one) (a .two) (a .three) (l .loop .t) (l .loop .near)
+            (l .loop .middle) (l .loop .far) (low .result)
             (a .part .now) (l .loop .part) (low .last .0) (omega arith) (omega arith) (l .loop .inv .1 .1) lowest,
       ),
     )
-
-same-length : tie.Need-same-length Inv-loop μ-loop
-same-length c = search needs
 
 returns : tie.Need-returns Inv-loop μ-loop
 returns c =
@@ -86,23 +61,7 @@ returns c =
 
 pub by-own-row-spec : {M : Type 1} → statement M
 by-own-row-spec =
-    tie.close
-    (tie.spec
-    Inv-loop
-    μ-loop
-    step-of-requires
-    step-of-requires-2
-    step-of-requires-3
-    wide-requires
-    loop-holds
-    column-requires
-    add-at
-    add-lower-to-least
-    add-lower-to-least-2
-    add-lower-to-least-3
-    lower-to-least-requires
-    add-t
-    loop-less
-    loop-again
-    same-length
+    tie.close (tie.spec Inv-loop μ-loop (λ c κs. search needs) (λ c κs. search needs) (λ c κs. search needs)
+    (λ c κs. search needs) loop-holds (λ c κs. search needs) add-at (λ c. search needs) (λ c. search needs)
+    (λ c. search needs) lower-to-least-requires (λ c. search needs) (λ c. search needs) loop-again (λ c. search needs)
     returns)

@@ -8,24 +8,6 @@ use Rattle.row.specs.Passes.{cellBack}
 use Rattle.row.proofs.cell_back.Statement.{statement}
 use Rattle.row.proofs.cell_back.Tie as tie
 
-add-result : tie.Need-add-result
-add-result c = search needs
-
-index-1-result : tie.Need-index-1-result
-index-1-result c = search needs
-
-index-2-result : tie.Need-index-2-result
-index-2-result c = search needs
-
-sub-result : tie.Need-sub-result
-sub-result c = search needs
-
-index-1-result-2 : tie.Need-index-1-result-2
-index-1-result-2 c = search needs
-
-index-2-result-2 : tie.Need-index-2-result-2
-index-2-result-2 c = search needs
-
 returns : tie.Need-returns
 unfolding cellNumber cellBack
 returns c =
@@ -44,13 +26,5 @@ returns-2 c =
 
 pub cell-back-spec : {M : Type 1} → statement M
 cell-back-spec =
-    tie.close
-    (tie.spec
-    add-result
-    index-1-result
-    index-2-result
-    sub-result
-    index-1-result-2
-    index-2-result-2
-    returns
-    returns-2)
+    tie.close (tie.spec (λ c. search needs) (λ c. search needs) (λ c. search needs) (λ c. search needs)
+    (λ c. search needs) (λ c. search needs) returns returns-2)

@@ -11,12 +11,9 @@ use Rattle.row.proofs.inside.Tie as tie
 returns : tie.Need-returns
 returns c = sym (within-out _ _ (inl (c .if1 .taken)))
 
-add-result : tie.Need-add-result
-add-result c = search needs
-
 returns-2 : tie.Need-returns-2
 unfolding within
 returns-2 c = simp (le-leb _ _ (c .if1 .left))
 
 pub inside-spec : {M : Type 1} → statement M
-inside-spec = tie.close (tie.spec returns add-result returns-2)
+inside-spec = tie.close (tie.spec returns (λ c. search needs) returns-2)

@@ -18,27 +18,6 @@ abbrev μ-loop : tie.MeasureT-loop
 loop-holds : tie.Need-loop-holds Inv-loop μ-loop
 loop-holds c = (search needs, pass-start _ _ _)
 
-add-level : tie.Need-add-level Inv-loop μ-loop
-add-level c = search needs
-
-mul-level : tie.Need-mul-level Inv-loop μ-loop
-mul-level c = search needs
-
-slice-read-level : tie.Need-slice-read-level Inv-loop μ-loop
-slice-read-level c = search needs
-
-add-lower : tie.Need-add-lower Inv-loop μ-loop
-add-lower c = search needs
-
-lower-requires : tie.Need-lower-requires Inv-loop μ-loop
-lower-requires c κs = search needs
-
-add-i : tie.Need-add-i Inv-loop μ-loop
-add-i c = search needs
-
-loop-less : tie.Need-loop-less Inv-loop μ-loop
-loop-less c = search needs
-
 loop-again : tie.Need-loop-again Inv-loop μ-loop
 loop-again c =
     let at-loop = c .before .before .before .before .before .before in
@@ -47,11 +26,11 @@ loop-again c =
     let l = at-loop .loop in
     let p = l .inv .1 in
     let low = c .before .before .lower in
-    let h : l .i < a .n = omega arith in
-    (omega arith, pass-turn (a .at) _ (a .part .now) (l .i) (l .part) (low .last .0) (omega arith) (rw (← pass-unread _ _ _ _ _ _ _ h (s .pre .1 .1) p) (low .ensures)) p)
-
-same-length : tie.Need-same-length Inv-loop μ-loop
-same-length c = search needs
+    let h : l .i < a .n = omega arith in (
+      omega arith,
+      pass-turn (a .at) _ (a .part .now) (l .i) (l .part) (low .last .0) (omega arith)
+          (rw (← pass-unread _ _ _ _ _ _ _ h (s .pre .1 .1) p) (low .ensures)) p,
+    )
 
 returns : tie.Need-returns Inv-loop μ-loop
 returns c =
@@ -60,18 +39,6 @@ returns c =
 
 pub lower-from-spec : {M : Type 1} → statement M
 lower-from-spec =
-    tie.close
-    (tie.spec
-    Inv-loop
-    μ-loop
-    loop-holds
-    add-level
-    mul-level
-    slice-read-level
-    add-lower
-    lower-requires
-    add-i
-    loop-less
-    loop-again
-    same-length
+    tie.close (tie.spec Inv-loop μ-loop loop-holds (λ c. search needs) (λ c. search needs) (λ c. search needs)
+    (λ c. search needs) (λ c κs. search needs) (λ c. search needs) (λ c. search needs) loop-again (λ c. search needs)
     returns)

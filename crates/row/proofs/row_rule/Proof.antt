@@ -21,30 +21,18 @@ ruled : (c : tie.After-sum) →
     let cells = c .before in
     let others = cells .before .before .before .before .before in
     let a = others .before .before .before .args in
-    ownColumns (a .upward) (a .width) (a .row * a .width) (cells .before .before .cell-back .result) (cells .before .cell-back2 .result) (cells .cell-back3 .result) (a .beyond) (a .width) (others .by-other-rows .last .0)
-    ≡ rowRule (record { width = a .width; height = a .rows; beyond = a .beyond; cells = a .cells }) (a .upward) (a .row) (a .part .now)
+    ownColumns (a .upward) (a .width) (a .row * a .width) (cells .before .before .cell-back .result)
+    (cells .before .cell-back2 .result) (cells .cell-back3 .result) (a .beyond) (a .width) (others .by-other-rows .last .0)
+    ≡ rowRule (record { width = a .width; height = a .rows; beyond = a .beyond; cells = a .cells }) (a .upward) (a .row)
+    (a .part .now)
 ruled c =
     let cells = c .before in
     let others = cells .before .before .before .before .before in
     let s = others .before .before .before in
     let a = s .args in
     rw (cells .before .before .cell-back .ensures, cells .before .cell-back2 .ensures, cells .cell-back3 .ensures)
-    (whole (record { width = a .width; height = a .rows; beyond = a .beyond; cells = a .cells }) (a .upward) (a .row) (s .pre .1 .0) (a .part .now) (others .by-other-rows .last .0) (own s) (others .by-other-rows .ensures))
-
-by-other-rows-requires : tie.Need-by-other-rows-requires
-by-other-rows-requires c κs = search needs
-
-cell-back-requires : tie.Need-cell-back-requires
-cell-back-requires c κs = search needs
-
-cell-back-requires-2 : tie.Need-cell-back-requires-2
-cell-back-requires-2 c κs = search needs
-
-cell-back-requires-3 : tie.Need-cell-back-requires-3
-cell-back-requires-3 c κs = search needs
-
-sum-requires : tie.Need-sum-requires
-sum-requires c κs = search needs
+    (whole (record { width = a .width; height = a .rows; beyond = a .beyond; cells = a .cells }) (a .upward) (a .row)
+    (s .pre .1 .0) (a .part .now) (others .by-other-rows .last .0) (own s) (others .by-other-rows .ensures))
 
 mul-by-own-row : tie.Need-mul-by-own-row
 mul-by-own-row c = omega (arith, own (c .before .before .before .before .before .before .before .before .before .before .before))
@@ -52,35 +40,23 @@ mul-by-own-row c = omega (arith, own (c .before .before .before .before .before 
 by-own-row-requires : tie.Need-by-own-row-requires
 by-own-row-requires c κs =
     let by-other-rows = c .before .before .before .before .before .before .before .before .by-other-rows in
-    omega (arith, own (c .before .before .before .before .before .before .before .before .before .before .before), by-other-rows .kept .0)
-
-same-length : tie.Need-same-length
-same-length c = search needs
+    omega (
+      arith,
+      own (c .before .before .before .before .before .before .before .before .before .before .before),
+      by-other-rows .kept .0,
+    )
 
 returns : tie.Need-returns
 returns c = c .before .before .by-own-row .ensures ∙ ruled (c .before .before .before .before .before)
 
-same-length-2 : tie.Need-same-length-2
-same-length-2 c = search needs
-
 returns-2 : tie.Need-returns-2
 returns-2 c =
     let cells = c .before .before in
-    let unset : cells .before .before .cell-back .result + cells .before .cell-back2 .result + cells .cell-back3 .result ≡ 0 = omega arith in
+    let unset : cells .before .before .cell-back .result + cells .before .cell-back2 .result + cells .cell-back3 .result ≡ 0 =
+    omega arith in
     sym (own-unset _ _ _ _ _ _ _ _ _ unset (λ i. cells .before .before .before .slice-known2 .given i .fits)) ∙ ruled (c .before)
 
 pub row-rule-spec : {M : Type 1} → statement M
 row-rule-spec =
-    tie.close
-    (tie.spec
-    by-other-rows-requires
-    cell-back-requires
-    cell-back-requires-2
-    cell-back-requires-3
-    sum-requires
-    mul-by-own-row
-    by-own-row-requires
-    same-length
-    returns
-    same-length-2
-    returns-2)
+    tie.close (tie.spec (λ c κs. search needs) (λ c κs. search needs) (λ c κs. search needs) (λ c κs. search needs)
+    (λ c κs. search needs) mul-by-own-row by-own-row-requires (λ c. search needs) returns (λ c. search needs) returns-2)

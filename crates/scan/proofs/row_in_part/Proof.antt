@@ -14,48 +14,47 @@ use Rattle.scan.proofs.row_in_part.Tie as tie
 mul-at : tie.Need-mul-at
 mul-at c =
     let args = c .before .args in
-    let s = place-small (args .width) (args .height) (args .start) (args .levels .now) (c .before .pre .0) (let l : args .start < args .height = omega arith in l) in
+    let s = place-small (args .width) (args .height) (args .start) (args .levels .now) (c .before .pre .0)
+    (let l : args .start < args .height = omega arith in l) in
     omega arith
 
 mul-row-rule : tie.Need-mul-row-rule
 mul-row-rule c =
     let args = c .before .args in
-    let s = place-small (args .width) (args .height) (args .start) (args .levels .now) (c .before .pre .0) (let l : args .start < args .height = omega arith in l) in
+    let s = place-small (args .width) (args .height) (args .start) (args .levels .now) (c .before .pre .0)
+    (let l : args .start < args .height = omega arith in l) in
     omega arith
 
 sub-row-rule : tie.Need-sub-row-rule
 sub-row-rule c =
     let args = c .before .args in
-    let s = start-place (args .width) (args .height) (args .start) (args .levels .now) (c .before .pre .0) (let l : args .start < args .height = omega arith in l) in
+    let s = start-place (args .width) (args .height) (args .start) (args .levels .now) (c .before .pre .0)
+    (let l : args .start < args .height = omega arith in l) in
     omega arith
 
 part-row-rule-start : tie.Need-part-row-rule-start
 part-row-rule-start c =
     let args = c .before .args in
-    let s = start-place (args .width) (args .height) (args .start) (args .levels .now) (c .before .pre .0) (let l : args .start < args .height = omega arith in l) in
+    let s = start-place (args .width) (args .height) (args .start) (args .levels .now) (c .before .pre .0)
+    (let l : args .start < args .height = omega arith in l) in
     omega arith
-
-part-row-rule-end : tie.Need-part-row-rule-end
-part-row-rule-end c = search needs
-
-sub-row-rule-2 : tie.Need-sub-row-rule-2
-sub-row-rule-2 c = search needs
-
-sub-row-rule-3 : tie.Need-sub-row-rule-3
-sub-row-rule-3 c = search needs
 
 row-rule-requires : tie.Need-row-rule-requires
 row-rule-requires c κs =
     let pre = c .before .before .pre in
     let args = c .before .before .args in
-    let h = pre .0 .high in
-    (part-size (args .width) (args .height) (args .start) (args .levels .now) (pre .0) (let l : args .start < args .height = omega arith in l), (omega arith, (pre .0 .wide .1, omega arith)))
+    let h = pre .0 .high in (
+      part-size (args .width) (args .height) (args .start) (args .levels .now) (pre .0)
+          (let l : args .start < args .height = omega arith in l),
+      (omega arith, (pre .0 .wide .1, omega arith)),
+    )
 
 same-length : tie.Need-same-length
 same-length c =
     let args = c .before .before .before .before .before .args in
     let row-rule = c .before .before .row-rule in
-    same-len-mid (args .start * args .width) (length (args .levels .now) - args .start * args .width) (args .levels .now) (row-rule .last .0) (row-rule .kept .0)
+    same-len-mid (args .start * args .width) (length (args .levels .now) - args .start * args .width) (args .levels .now)
+    (row-rule .last .0) (row-rule .kept .0)
 
 returns : tie.Need-returns
 returns c =
@@ -63,20 +62,12 @@ returns c =
     let pre = c .before .before .before .before .before .pre in
     let row-rule = c .before .before .row-rule in
     lent-part (args .start * args .width) (args .levels .now) (row-rule .last .0)
-    (rowRule (area (args .width) (args .height - args .start) (args .beyond) (args .cells)) (args .upward) (args .row - args .start)) (row-rule .ensures)
-    ∙ sym (row-of-part (args .width) (args .height) (args .beyond) (args .cells) (args .upward) (args .start) (args .row) (args .levels .now) (pre .0) (pre .1 .0) (pre .1 .1 .0) (pre .1 .1 .1))
+    (rowRule (area (args .width) (args .height - args .start) (args .beyond) (args .cells)) (args .upward)
+    (args .row - args .start)) (row-rule .ensures)
+    ∙ sym (row-of-part (args .width) (args .height) (args .beyond) (args .cells) (args .upward) (args .start) (args .row)
+    (args .levels .now) (pre .0) (pre .1 .0) (pre .1 .1 .0) (pre .1 .1 .1))
 
 pub row-in-part-spec : {M : Type 1} → statement M
 row-in-part-spec =
-    tie.close
-    (tie.spec
-    mul-at
-    mul-row-rule
-    sub-row-rule
-    part-row-rule-start
-    part-row-rule-end
-    sub-row-rule-2
-    sub-row-rule-3
-    row-rule-requires
-    same-length
-    returns)
+    tie.close (tie.spec mul-at mul-row-rule sub-row-rule part-row-rule-start (λ c. search needs) (λ c. search needs)
+    (λ c. search needs) row-rule-requires same-length returns)

@@ -7,9 +7,6 @@ use mathlib.Core.Path.{sym, ap, _∙_}
 use Rattle.sheet.proofs.sheet_refusal.Statement.{statement}
 use Rattle.sheet.proofs.sheet_refusal.Tie as tie
 
-frame-refusal-requires : tie.Need-frame-refusal-requires
-frame-refusal-requires c κs = search needs
-
 returns : tie.Need-returns
 returns c =
     let args = c .before .before .before .args in
@@ -32,15 +29,17 @@ returns-2 : tie.Need-returns-2
 returns-2 c =
     let args = c .before .before .before .before .before .args in
     let frame-refusal = c .before .before .before .frame-refusal in
-    refuse-bytes (args .width) (args .height) (args .sheet .now) (sym (frame-refusal .ensures) ∙ c .before .before .if1 .left) (λ e. c .if2 .taken (e ∙ ap (λ n. args .height * n) (sym (c .before .row-bytes .ensures))))
+    refuse-bytes (args .width) (args .height) (args .sheet .now) (sym (frame-refusal .ensures) ∙ c .before .before .if1 .left)
+    (λ e. c .if2 .taken (e ∙ ap (λ n. args .height * n) (sym (c .before .row-bytes .ensures))))
 
 returns-3 : tie.Need-returns-3
 returns-3 c =
     let args = c .before .before .before .before .before .args in
     let frame-refusal = c .before .before .before .frame-refusal in
-    accept-sheet (args .width) (args .height) (args .sheet .now) (sym (frame-refusal .ensures) ∙ c .before .before .if1 .left) (c .if2 .left ∙ ap (λ n. args .height * n) (c .before .row-bytes .ensures))
+    accept-sheet (args .width) (args .height) (args .sheet .now) (sym (frame-refusal .ensures) ∙ c .before .before .if1 .left)
+    (c .if2 .left ∙ ap (λ n. args .height * n) (c .before .row-bytes .ensures))
 
 pub sheet-refusal-spec : {M : Type 1} → statement M
 sheet-refusal-spec =
     tie.close
-    (tie.spec frame-refusal-requires returns row-bytes-requires mul-if2 returns-2 returns-3)
+    (tie.spec (λ c κs. search needs) returns row-bytes-requires mul-if2 returns-2 returns-3)

@@ -17,9 +17,6 @@ write-number-requires c κs =
     let write-bytes = c .before .before .before .write-bytes in
     room-second (args .label .now) (digits (args .n)) (args .at) (args .out .now) pre (write-bytes .ensures)
 
-same-length : tie.Need-same-length
-same-length c = search needs
-
 returns : tie.Need-returns
 returns c =
     let args = c .before .before .before .before .before .before .before .before .before .before .args in
@@ -27,8 +24,9 @@ returns c =
     let write-bytes = c .before .before .before .before .before .before .write-bytes in
     let bytes = write-bytes in
     let number = c .before .before .write-number in
-    wrote-both (args .label .now) (digits (args .n)) (args .at) (args .out .now) pre (bytes .ensures) (wrote-number (args .n) (bytes .result) (bytes .last .1 .0) (number .last .1 .0) (number .result) (number .ensures))
+    wrote-both (args .label .now) (digits (args .n)) (args .at) (args .out .now) pre (bytes .ensures)
+    (wrote-number (args .n) (bytes .result) (bytes .last .1 .0) (number .last .1 .0) (number .result) (number .ensures))
 
 pub write-labelled-spec : {M : Type 1} → statement M
 write-labelled-spec =
-    tie.close (tie.spec write-bytes-requires write-number-requires same-length returns)
+    tie.close (tie.spec write-bytes-requires write-number-requires (λ c. search needs) returns)

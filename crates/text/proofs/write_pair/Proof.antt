@@ -10,25 +10,25 @@ write-labelled-requires : tie.Need-write-labelled-requires
 write-labelled-requires c κs =
     let args = c .before .before .before .before .args in
     let pre = c .before .before .before .before .pre in
-    room-first (args .before .now ++ digits (args .first)) (args .between .now ++ digits (args .second)) (args .at) (args .out .now) pre
+    room-first (args .before .now ++ digits (args .first)) (args .between .now ++ digits (args .second)) (args .at)
+    (args .out .now) pre
 
 write-labelled-requires-2 : tie.Need-write-labelled-requires-2
 write-labelled-requires-2 c κs =
     let args = c .before .before .before .before .before .before .before .before .args in
     let pre = c .before .before .before .before .before .before .before .before .pre in
     let write-labelled = c .before .before .before .write-labelled in
-    room-second (args .before .now ++ digits (args .first)) (args .between .now ++ digits (args .second)) (args .at) (args .out .now) pre (write-labelled .ensures)
-
-same-length : tie.Need-same-length
-same-length c = search needs
+    room-second (args .before .now ++ digits (args .first)) (args .between .now ++ digits (args .second)) (args .at)
+    (args .out .now) pre (write-labelled .ensures)
 
 returns : tie.Need-returns
 returns c =
     let args = c .before .before .before .before .before .before .before .before .before .before .before .args in
     let pre = c .before .before .before .before .before .before .before .before .before .before .before .pre in
     let write-labelled = c .before .before .before .before .before .before .write-labelled in
-    wrote-both (args .before .now ++ digits (args .first)) (args .between .now ++ digits (args .second)) (args .at) (args .out .now) pre (write-labelled .ensures) (c .before .before .write-labelled2 .ensures)
+    wrote-both (args .before .now ++ digits (args .first)) (args .between .now ++ digits (args .second)) (args .at)
+    (args .out .now) pre (write-labelled .ensures) (c .before .before .write-labelled2 .ensures)
 
 pub write-pair-spec : {M : Type 1} → statement M
 write-pair-spec =
-    tie.close (tie.spec write-labelled-requires write-labelled-requires-2 same-length returns)
+    tie.close (tie.spec write-labelled-requires write-labelled-requires-2 (λ c. search needs) returns)

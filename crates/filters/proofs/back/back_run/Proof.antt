@@ -5,20 +5,12 @@ use mathlib.Core.Path.{refl}
 use Rattle.filters.proofs.back.back_run.Statement.{statement}
 use Rattle.filters.proofs.back.back_run.Tie as tie
 
-area-width-requires : tie.Need-area-width-requires
-area-width-requires c κs = search needs
-
-area-height-requires : tie.Need-area-height-requires
-area-height-requires c κs = search needs
-
-other-kind-requires : tie.Need-other-kind-requires
-other-kind-requires c κs = search needs
-
 returns : tie.Need-returns
 returns c =
     let area-width = c .before .before .before .area-width in
-    back-record (c .before .before .before .before .args .run) _ _ _ _ (c .before .other-kind .ensures) (area-width .ensures .0) (c .before .before .area-height .ensures .0) refl
+    back-record (c .before .before .before .before .args .run) _ _ _ _ (c .before .other-kind .ensures) (area-width .ensures .0)
+    (c .before .before .area-height .ensures .0) refl
 
 pub back-run-spec : {M : Type 1} → statement M
 back-run-spec =
-    tie.close (tie.spec area-width-requires area-height-requires other-kind-requires returns)
+    tie.close (tie.spec (λ c κs. search needs) (λ c κs. search needs) (λ c κs. search needs) returns)

@@ -6,14 +6,9 @@ use mathlib.Core.Path.{ap, _∙_}
 use Rattle.filters.proofs.back.choose.Statement.{statement}
 use Rattle.filters.proofs.back.choose.Tie as tie
 
-held-requires : tie.Need-held-requires
-held-requires c κs = search needs
-
-where-one-requires : tie.Need-where-one-requires
-where-one-requires c κs = search needs
-
 returns : tie.Need-returns
-returns c = c .where-one .ensures ∙ ap (λ n. cond (eqb n 1) (c .before .before .args .on) (c .before .before .args .off)) (c .before .held .ensures)
+returns c = c .where-one .ensures
+    ∙ ap (λ n. cond (eqb n 1) (c .before .before .args .on) (c .before .before .args .off)) (c .before .held .ensures)
 
 pub choose-spec : {M : Type 1} → statement M
-choose-spec = tie.close (tie.spec held-requires where-one-requires returns)
+choose-spec = tie.close (tie.spec (λ c κs. search needs) (λ c κs. search needs) returns)

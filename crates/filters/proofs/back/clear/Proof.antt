@@ -4,14 +4,8 @@ use borrow.Author.Needs.{needs}
 use Rattle.filters.proofs.back.clear.Statement.{statement}
 use Rattle.filters.proofs.back.clear.Tie as tie
 
-fill-level-requires : tie.Need-fill-level-requires
-fill-level-requires c κs = search needs
-
-same-length : tie.Need-same-length
-same-length c = search needs
-
 returns : tie.Need-returns
 returns c = all-zero (c .before .before .fill-level .ensures)
 
 pub clear-spec : {M : Type 1} → statement M
-clear-spec = tie.close (tie.spec fill-level-requires same-length returns)
+clear-spec = tie.close (tie.spec (λ c κs. search needs) (λ c. search needs) returns)

@@ -5,21 +5,6 @@ use mathlib.Core.Path.{ap, _∙_}
 use Rattle.filters.proofs.back.filter_sheet.Statement.{statement}
 use Rattle.filters.proofs.back.filter_sheet.Tie as tie
 
-sheet-back-requires : tie.Need-sheet-back-requires
-sheet-back-requires c κs = search needs
-
-clear-both-requires : tie.Need-clear-both-requires
-clear-both-requires c κs = search needs
-
-same-length : tie.Need-same-length
-same-length c = search needs
-
-same-length-2 : tie.Need-same-length-2
-same-length-2 c = search needs
-
-same-length-3 : tie.Need-same-length-3
-same-length-3 c = search needs
-
 returns : tie.Need-returns
 returns c =
     let sheet-back = c .before .before .before .before .before .before .before .before .before .before .before .sheet-back in
@@ -28,11 +13,5 @@ returns c =
 
 pub filter-sheet-spec : {M : Type 1} → statement M
 filter-sheet-spec =
-    tie.close
-    (tie.spec
-    sheet-back-requires
-    clear-both-requires
-    same-length
-    same-length-2
-    same-length-3
-    returns)
+    tie.close (tie.spec (λ c κs. search needs) (λ c κs. search needs) (λ c. search needs) (λ c. search needs)
+    (λ c. search needs) returns)

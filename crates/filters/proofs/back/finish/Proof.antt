@@ -4,12 +4,6 @@ use borrow.Author.Needs.{needs}
 use Rattle.filters.proofs.back.finish.Statement.{statement}
 use Rattle.filters.proofs.back.finish.Tie as tie
 
-continue-run-requires : tie.Need-continue-run-requires
-continue-run-requires c κs = search needs
-
-same-length : tie.Need-same-length
-same-length c = search needs
-
 returns : tie.Need-returns
 returns c =
     let args = c .before .before .before .before .before .args in
@@ -17,4 +11,4 @@ returns c =
     finish-rows (args .run) (pre .0) (pre .1 .0) (args .levels .now) (pre .1 .1) (c .before .before .continue-run .ensures)
 
 pub finish-spec : {M : Type 1} → statement M
-finish-spec = tie.close (tie.spec continue-run-requires same-length returns)
+finish-spec = tie.close (tie.spec (λ c κs. search needs) (λ c. search needs) returns)

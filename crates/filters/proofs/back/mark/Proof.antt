@@ -10,7 +10,8 @@ use Rattle.filters.proofs.back.mark.Statement.{statement}
 use Rattle.filters.proofs.back.mark.Tie as tie
 
 abbrev Inv-loop : tie.InvT-loop
-Inv-loop first low high on off second₀ k₀ second k = Filling (length first) (λ j. chosen low high on off (getD first j 0)) k second
+Inv-loop first low high on off second₀ k₀ second k =
+    Filling (length first) (λ j. chosen low high on off (getD first j 0)) k second
 
 abbrev μ-loop : tie.MeasureT-loop
 μ-loop first low high on off second₀ k₀ second k = length first - k
@@ -18,29 +19,12 @@ abbrev μ-loop : tie.MeasureT-loop
 loop-holds : tie.Need-loop-holds Inv-loop μ-loop
 loop-holds c = filling-start _ _ _ (c .before .before .pre)
 
-mul-choose : tie.Need-mul-choose Inv-loop μ-loop
-mul-choose c = search needs
-
-shared-slice-read-choose : tie.Need-shared-slice-read-choose Inv-loop μ-loop
-shared-slice-read-choose c = search needs
-
-choose-requires : tie.Need-choose-requires Inv-loop μ-loop
-choose-requires c κs = search needs
-
-mul-second : tie.Need-mul-second Inv-loop μ-loop
-mul-second c = search needs
-
 slice-write-second : tie.Need-slice-write-second Inv-loop μ-loop
 slice-write-second c = let s = c .before .before .before .loop .inv .size in omega arith
 
-add-k : tie.Need-add-k Inv-loop μ-loop
-add-k c = search needs
-
-loop-less : tie.Need-loop-less Inv-loop μ-loop
-loop-less c = search needs
-
 loop-again : tie.Need-loop-again Inv-loop μ-loop
-loop-again c = filling-turn _ _ _ _ _ (c .before .before .before .loop .inv) (c .before .before .loop-test .taken) (c .choose .ensures)
+loop-again c = filling-turn _ _ _ _ _ (c .before .before .before .loop .inv) (c .before .before .loop-test .taken)
+    (c .choose .ensures)
 
 same-length : tie.Need-same-length Inv-loop μ-loop
 same-length c = c .before .loop .inv .size ∙ sym (c .before .before .before .before .pre)
@@ -50,18 +34,5 @@ returns c = filling-end _ _ _ _ (c .before .loop .inv) (omega arith)
 
 pub mark-spec : {M : Type 1} → statement M
 mark-spec =
-    tie.close
-    (tie.spec
-    Inv-loop
-    μ-loop
-    loop-holds
-    mul-choose
-    shared-slice-read-choose
-    choose-requires
-    mul-second
-    slice-write-second
-    add-k
-    loop-less
-    loop-again
-    same-length
-    returns)
+    tie.close (tie.spec Inv-loop μ-loop loop-holds (λ c. search needs) (λ c. search needs) (λ c κs. search needs)
+    (λ c. search needs) slice-write-second (λ c. search needs) (λ c. search needs) loop-again same-length returns)

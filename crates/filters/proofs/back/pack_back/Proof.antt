@@ -5,17 +5,9 @@ use borrow.Author.Needs.{needs}
 use Rattle.filters.proofs.back.pack_back.Statement.{statement}
 use Rattle.filters.proofs.back.pack_back.Tie as tie
 
-back-run-requires : tie.Need-back-run-requires
-back-run-requires c κs = search needs
-
 margin-of-requires : tie.Need-margin-of-requires
-margin-of-requires c κs = let s = sound (c .before .before .before .args .run) (c .before .before .before .pre .0) in (s .side-is, s .cap-small)
-
-below-held-requires : tie.Need-below-held-requires
-below-held-requires c κs = search needs
-
-highest-held-requires : tie.Need-highest-held-requires
-highest-held-requires c κs = search needs
+margin-of-requires c κs = let s = sound (c .before .before .before .args .run) (c .before .before .before .pre .0) in
+    (s .side-is, s .cap-small)
 
 pack-frame-requires : tie.Need-pack-frame-requires
 pack-frame-requires c κs =
@@ -23,9 +15,6 @@ pack-frame-requires c κs =
     let pre = c .before .before .before .before .before .before .before .pre in
     let margin-of = c .before .before .before .margin-of in
     (frame-canvas (args .run) (pre .0) (args .second .now) (pre .1 .0) (margin-of .result) (margin-of .ensures .0), pre .1 .1 .1)
-
-same-length : tie.Need-same-length
-same-length c = search needs
 
 returns : tie.Need-returns
 returns c =
@@ -35,16 +24,11 @@ returns c =
     let margin-of = c .before .before .before .before .before .before .margin-of in
     let below-held = c .before .before .before .before .before .below-held in
     let highest-held = c .before .before .before .before .highest-held in
-    kept-is (args .run) (back-run .result) (pre .0) (back-run .ensures) (args .size) (pre .1 .1 .0) (below-held .result) (highest-held .result) (below-held .ensures) (highest-held .ensures) (args .second .now) (margin-of .result) (margin-of .ensures .0) (c .before .before .pack-frame .ensures)
+    kept-is (args .run) (back-run .result) (pre .0) (back-run .ensures) (args .size) (pre .1 .1 .0) (below-held .result)
+    (highest-held .result) (below-held .ensures) (highest-held .ensures) (args .second .now) (margin-of .result)
+    (margin-of .ensures .0) (c .before .before .pack-frame .ensures)
 
 pub pack-back-spec : {M : Type 1} → statement M
 pack-back-spec =
-    tie.close
-    (tie.spec
-    back-run-requires
-    margin-of-requires
-    below-held-requires
-    highest-held-requires
-    pack-frame-requires
-    same-length
-    returns)
+    tie.close (tie.spec (λ c κs. search needs) margin-of-requires (λ c κs. search needs) (λ c κs. search needs)
+    pack-frame-requires (λ c. search needs) returns)

@@ -4,24 +4,6 @@ use borrow.Author.Needs.{needs}
 use Rattle.filters.proofs.back.way_back.Statement.{statement}
 use Rattle.filters.proofs.back.way_back.Tie as tie
 
-back-run-requires : tie.Need-back-run-requires
-back-run-requires c κs = search needs
-
-below-held-requires : tie.Need-below-held-requires
-below-held-requires c κs = search needs
-
-highest-held-requires : tie.Need-highest-held-requires
-highest-held-requires c κs = search needs
-
-where-one-requires : tie.Need-where-one-requires
-where-one-requires c κs = search needs
-
-where-one-requires-2 : tie.Need-where-one-requires-2
-where-one-requires-2 c κs = search needs
-
-mark-requires : tie.Need-mark-requires
-mark-requires c κs = search needs
-
 finish-requires : tie.Need-finish-requires
 finish-requires c κs =
     let args = c .before .before .before .before .before .before .before .before .before .before .before .before .args in
@@ -32,10 +14,9 @@ finish-requires c κs =
     let where-one = c .before .before .before .before .before .before .where-one in
     let where-one2 = c .before .before .before .before .before .where-one2 in
     let mark = c .before .before .before .mark in
-    back-ready (args .run) (pre .0 .taken) (args .size) (pre .1) (below-held .result) (highest-held .result) (below-held .ensures) (highest-held .ensures) (back-run .result) (back-run .ensures) (args .first .now) (where-one .result) (where-one2 .result) (where-one .ensures) (where-one2 .ensures) (mark .ensures) (pre .0 .first-size)
-
-same-length : tie.Need-same-length
-same-length c = search needs
+    back-ready (args .run) (pre .0 .taken) (args .size) (pre .1) (below-held .result) (highest-held .result) (below-held .ensures)
+    (highest-held .ensures) (back-run .result) (back-run .ensures) (args .first .now) (where-one .result) (where-one2 .result)
+    (where-one .ensures) (where-one2 .ensures) (mark .ensures) (pre .0 .first-size)
 
 returns : tie.Need-returns
 returns c =
@@ -47,18 +28,11 @@ returns c =
     let where-one = c .before .before .before .before .before .before .before .before .before .where-one in
     let where-one2 = c .before .before .before .before .before .before .before .before .where-one2 in
     let mark = c .before .before .before .before .before .before .mark in
-    back-finished (args .run) (pre .0 .taken) (args .size) (pre .1) (below-held .result) (highest-held .result) (below-held .ensures) (highest-held .ensures) (back-run .result) (back-run .ensures) (args .first .now) (where-one .result) (where-one2 .result) (where-one .ensures) (where-one2 .ensures) (mark .ensures) (c .before .before .finish .ensures)
+    back-finished (args .run) (pre .0 .taken) (args .size) (pre .1) (below-held .result) (highest-held .result)
+    (below-held .ensures) (highest-held .ensures) (back-run .result) (back-run .ensures) (args .first .now) (where-one .result)
+    (where-one2 .result) (where-one .ensures) (where-one2 .ensures) (mark .ensures) (c .before .before .finish .ensures)
 
 pub way-back-spec : {M : Type 1} → statement M
 way-back-spec =
-    tie.close
-    (tie.spec
-    back-run-requires
-    below-held-requires
-    highest-held-requires
-    where-one-requires
-    where-one-requires-2
-    mark-requires
-    finish-requires
-    same-length
-    returns)
+    tie.close (tie.spec (λ c κs. search needs) (λ c κs. search needs) (λ c κs. search needs) (λ c κs. search needs)
+    (λ c κs. search needs) (λ c κs. search needs) finish-requires (λ c. search needs) returns)

@@ -15,9 +15,6 @@ abbrev μ-loop : tie.MeasureT-loop
 loop-holds : tie.Need-loop-holds Inv-loop μ-loop
 loop-holds c = falls-start (c .before .before .before .pre .0) (c .before .before .before .pre .1 .1)
 
-sub-n : tie.Need-sub-n Inv-loop μ-loop
-sub-n c = search needs
-
 one-size-requires : tie.Need-one-size-requires Inv-loop μ-loop
 one-size-requires c κs =
     let pre = c .before .before .before .before .before .before .before .pre in
@@ -45,15 +42,5 @@ returns c = falls-end (c .before .loop .inv) (c .loop-test .left)
 
 pub fall-spec : {M : Type 1} → statement M
 fall-spec =
-    tie.close
-    (tie.spec
-    Inv-loop
-    μ-loop
-    loop-holds
-    sub-n
-    one-size-requires
-    loop-less
-    loop-again
-    same-length
-    same-length-2
-    returns)
+    tie.close (tie.spec Inv-loop μ-loop loop-holds (λ c. search needs) one-size-requires loop-less loop-again
+    same-length same-length-2 returns)

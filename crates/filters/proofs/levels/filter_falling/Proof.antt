@@ -5,21 +5,6 @@ use mathlib.Core.Path.{ap, _∙_}
 use Rattle.filters.proofs.levels.filter_falling.Statement.{statement}
 use Rattle.filters.proofs.levels.filter_falling.Tie as tie
 
-all-falling-requires : tie.Need-all-falling-requires
-all-falling-requires c κs = search needs
-
-clear-both-requires : tie.Need-clear-both-requires
-clear-both-requires c κs = search needs
-
-same-length : tie.Need-same-length
-same-length c = search needs
-
-same-length-2 : tie.Need-same-length-2
-same-length-2 c = search needs
-
-same-length-3 : tie.Need-same-length-3
-same-length-3 c = search needs
-
 returns : tie.Need-returns
 returns c =
     let all-falling = c .before .before .before .before .before .before .before .before .before .before .before .all-falling in
@@ -29,11 +14,5 @@ returns c =
 
 pub filter-falling-spec : {M : Type 1} → statement M
 filter-falling-spec =
-    tie.close
-    (tie.spec
-    all-falling-requires
-    clear-both-requires
-    same-length
-    same-length-2
-    same-length-3
-    returns)
+    tie.close (tie.spec (λ c κs. search needs) (λ c κs. search needs) (λ c. search needs) (λ c. search needs)
+    (λ c. search needs) returns)

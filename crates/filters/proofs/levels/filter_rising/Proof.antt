@@ -5,21 +5,6 @@ use mathlib.Core.Path.{ap, _∙_}
 use Rattle.filters.proofs.levels.filter_rising.Statement.{statement}
 use Rattle.filters.proofs.levels.filter_rising.Tie as tie
 
-all-rising-requires : tie.Need-all-rising-requires
-all-rising-requires c κs = search needs
-
-clear-both-requires : tie.Need-clear-both-requires
-clear-both-requires c κs = search needs
-
-same-length : tie.Need-same-length
-same-length c = search needs
-
-same-length-2 : tie.Need-same-length-2
-same-length-2 c = search needs
-
-same-length-3 : tie.Need-same-length-3
-same-length-3 c = search needs
-
 returns : tie.Need-returns
 returns c =
     let all-rising = c .before .before .before .before .before .before .before .before .before .before .before .all-rising in
@@ -29,11 +14,5 @@ returns c =
 
 pub filter-rising-spec : {M : Type 1} → statement M
 filter-rising-spec =
-    tie.close
-    (tie.spec
-    all-rising-requires
-    clear-both-requires
-    same-length
-    same-length-2
-    same-length-3
-    returns)
+    tie.close (tie.spec (λ c κs. search needs) (λ c κs. search needs) (λ c. search needs) (λ c. search needs)
+    (λ c. search needs) returns)

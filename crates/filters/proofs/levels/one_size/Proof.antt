@@ -5,25 +5,14 @@ use borrow.Author.Needs.{needs}
 use Rattle.filters.proofs.levels.one_size.Statement.{statement}
 use Rattle.filters.proofs.levels.one_size.Tie as tie
 
-way-back-requires : tie.Need-way-back-requires
-way-back-requires c κs = search needs
-
-store-held-requires : tie.Need-store-held-requires
-store-held-requires c κs = search needs
-
-same-length : tie.Need-same-length
-same-length c = search needs
-
-same-length-2 : tie.Need-same-length-2
-same-length-2 c = search needs
-
 returns : tie.Need-returns
 returns c =
     let args = c .before .before .before .before .before .before .before .before .before .before .before .before .args in
     let pre = c .before .before .before .before .before .before .before .before .before .before .before .before .pre in
     let way-back = c .before .before .before .before .before .before .before .way-back in
-    after-back (args .size) (λ l. stored (args .run) l (args .size) (args .out .now)) (pre .0) (way-back .ensures) (c .before .before .store-held .ensures)
+    after-back (args .size) (λ l. stored (args .run) l (args .size) (args .out .now)) (pre .0) (way-back .ensures)
+    (c .before .before .store-held .ensures)
 
 pub one-size-spec : {M : Type 1} → statement M
 one-size-spec =
-    tie.close (tie.spec way-back-requires store-held-requires same-length same-length-2 returns)
+    tie.close (tie.spec (λ c κs. search needs) (λ c κs. search needs) (λ c. search needs) (λ c. search needs) returns)

@@ -22,9 +22,6 @@ one-size-requires c κs =
     let loop = c .before .before .before .loop in
     (loop .inv .given, (let b = loop .inv .below in let s = pre .1 .0 in omega arith, loop .inv .room))
 
-add-n : tie.Need-add-n Inv-loop μ-loop
-add-n c = search needs
-
 loop-less : tie.Need-loop-less Inv-loop μ-loop
 loop-less c = omega (arith, c .before .before .before .before .before .before .before .loop-test .taken)
 
@@ -46,15 +43,5 @@ returns c = rises-end (c .before .loop .inv) (omega arith)
 
 pub rise-spec : {M : Type 1} → statement M
 rise-spec =
-    tie.close
-    (tie.spec
-    Inv-loop
-    μ-loop
-    loop-holds
-    one-size-requires
-    add-n
-    loop-less
-    loop-again
-    same-length
-    same-length-2
-    returns)
+    tie.close (tie.spec Inv-loop μ-loop loop-holds one-size-requires (λ c. search needs) loop-less loop-again
+    same-length same-length-2 returns)

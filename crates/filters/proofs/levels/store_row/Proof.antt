@@ -15,38 +15,11 @@ abbrev μ-loop : tie.MeasureT-loop
 loop-holds : tie.Need-loop-holds Inv-loop μ-loop
 loop-holds c = storing-start
 
-add-choose : tie.Need-add-choose Inv-loop μ-loop
-add-choose c = search needs
-
-mul-choose : tie.Need-mul-choose Inv-loop μ-loop
-mul-choose c = search needs
-
-shared-slice-read-choose : tie.Need-shared-slice-read-choose Inv-loop μ-loop
-shared-slice-read-choose c = search needs
-
-add-choose-2 : tie.Need-add-choose-2 Inv-loop μ-loop
-add-choose-2 c = search needs
-
-mul-choose-2 : tie.Need-mul-choose-2 Inv-loop μ-loop
-mul-choose-2 c = search needs
-
 slice-read-choose : tie.Need-slice-read-choose Inv-loop μ-loop
 slice-read-choose c = let s = c .before .before .before .loop .inv .patch .size in omega arith
 
-choose-requires : tie.Need-choose-requires Inv-loop μ-loop
-choose-requires c κs = search needs
-
-add-out : tie.Need-add-out Inv-loop μ-loop
-add-out c = search needs
-
-mul-out : tie.Need-mul-out Inv-loop μ-loop
-mul-out c = search needs
-
 slice-write-out : tie.Need-slice-write-out Inv-loop μ-loop
 slice-write-out c = let s = c .before .before .before .before .loop .inv .patch .size in omega arith
-
-add-i : tie.Need-add-i Inv-loop μ-loop
-add-i c = search needs
 
 loop-less : tie.Need-loop-less Inv-loop μ-loop
 loop-less c = omega (arith, c .before .before .before .loop-test .taken)
@@ -66,23 +39,6 @@ returns c = storing-end (c .before .loop .inv) (omega arith)
 
 pub store-row-spec : {M : Type 1} → statement M
 store-row-spec =
-    tie.close
-    (tie.spec
-    Inv-loop
-    μ-loop
-    loop-holds
-    add-choose
-    mul-choose
-    shared-slice-read-choose
-    add-choose-2
-    mul-choose-2
-    slice-read-choose
-    choose-requires
-    add-out
-    mul-out
-    slice-write-out
-    add-i
-    loop-less
-    loop-again
-    same-length
-    returns)
+    tie.close (tie.spec Inv-loop μ-loop loop-holds (λ c. search needs) (λ c. search needs) (λ c. search needs)
+    (λ c. search needs) (λ c. search needs) slice-read-choose (λ c κs. search needs) (λ c. search needs)
+    (λ c. search needs) slice-write-out (λ c. search needs) loop-less loop-again same-length returns)

@@ -5,22 +5,14 @@ use mathlib.Core.Path.{sym, _∙_}
 use Rattle.harness.proofs.runs.wt_collect.Statement.{statement}
 use Rattle.harness.proofs.runs.wt_collect.Tie as tie
 
-holds-no-record-requires : tie.Need-holds-no-record-requires
-holds-no-record-requires c κs = search needs
-
 returns : tie.Need-returns
 returns c =
     let args = c .before .before .before .before .before .args in
-    collect-words (args .words .now) (args .levels .now) (args .out .now) (sym (c .before .holds-no-record .ensures) ∙ c .if1 .taken)
+    collect-words (args .words .now) (args .levels .now) (args .out .now)
+    (sym (c .before .holds-no-record .ensures) ∙ c .if1 .taken)
 
 read-record-requires : tie.Need-read-record-requires
 read-record-requires c κs = (sym (c .before .holds-no-record .ensures) ∙ c .if1 .left)
-
-collect-requires : tie.Need-collect-requires
-collect-requires c κs = search needs
-
-same-length : tie.Need-same-length
-same-length c = search needs
 
 returns-2 : tie.Need-returns-2
 returns-2 c =
@@ -29,15 +21,10 @@ returns-2 c =
     let if1 = c .before .before .before .before .before .if1 in
     let read-record = c .before .before .before .before .read-record in
     let collect = c .before .before .collect in
-    collect-answers (args .words .now) (args .levels .now) (args .out .now) (sym (holds-no-record .ensures) ∙ if1 .left) (read-record .result) (read-record .ensures) (collect .result) (collect .last .1 .1 .0) (collect .ensures)
+    collect-answers (args .words .now) (args .levels .now) (args .out .now) (sym (holds-no-record .ensures) ∙ if1 .left)
+    (read-record .result) (read-record .ensures) (collect .result) (collect .last .1 .1 .0) (collect .ensures)
 
 pub wt-collect-spec : {M : Type 1} → statement M
 wt-collect-spec =
-    tie.close
-    (tie.spec
-    holds-no-record-requires
-    returns
-    read-record-requires
-    collect-requires
-    same-length
+    tie.close (tie.spec (λ c κs. search needs) returns read-record-requires (λ c κs. search needs) (λ c. search needs)
     returns-2)

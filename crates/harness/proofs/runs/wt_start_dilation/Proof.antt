@@ -5,42 +5,25 @@ use borrow.Author.Needs.{needs}
 use Rattle.harness.proofs.runs.wt_start_dilation.Statement.{statement}
 use Rattle.harness.proofs.runs.wt_start_dilation.Tie as tie
 
-dilation-refusal-requires : tie.Need-dilation-refusal-requires
-dilation-refusal-requires c κs = search needs
-
-at-latest-requires : tie.Need-at-latest-requires
-at-latest-requires c κs = search needs
-
-same-length : tie.Need-same-length
-same-length c = search needs
-
 returns : tie.Need-returns
 returns c =
     let args = c .before .before .before .before .before .before .before .before .args in
     let if1 = c .before .before .before .if1 in
-    start-other (dilationRefusals (args .width) (args .height) (args .sheet .now) (args .side) (args .cells .now) (args .cap) (args .levels .now)) tt tt (args .levels .now) (args .words .now) (if1 .taken) (c .at-latest .ensures) (c .before .dilation-refusal .ensures)
-
-start-dilation-requires : tie.Need-start-dilation-requires
-start-dilation-requires c κs = search needs
-
-same-length-2 : tie.Need-same-length-2
-same-length-2 c = search needs
+    start-other (dilationRefusals (args .width) (args .height) (args .sheet .now) (args .side) (args .cells .now) (args .cap)
+    (args .levels .now)) tt tt (args .levels .now) (args .words .now) (if1 .taken) (c .at-latest .ensures)
+    (c .before .dilation-refusal .ensures)
 
 returns-2 : tie.Need-returns-2
 returns-2 c =
     let args = c .before .before .before .before .before .before .before .before .before .before .args in
     let if1 = c .before .before .before .before .before .if1 in
     let start-dilation = c .before .before .before .start-dilation in
-    start-refuses (dilationRefusals (args .width) (args .height) (args .sheet .now) (args .side) (args .cells .now) (args .cap) (args .levels .now)) tt (args .levels .now) (args .words .now) (if1 .left) (start-dilation .result .refusal) (start-dilation .result .run) (start-dilation .last .1 .1 .1 .1 .1 .1 .0) (start-dilation .ensures) (c .if2 .taken)
+    start-refuses (dilationRefusals (args .width) (args .height) (args .sheet .now) (args .side) (args .cells .now) (args .cap)
+    (args .levels .now)) tt (args .levels .now) (args .words .now) (if1 .left) (start-dilation .result .refusal)
+    (start-dilation .result .run) (start-dilation .last .1 .1 .1 .1 .1 .1 .0) (start-dilation .ensures) (c .if2 .taken)
 
 write-record-requires : tie.Need-write-record-requires
 write-record-requires c κs = c .before .before .before .before .before .before .before .if1 .left
-
-same-length-3 : tie.Need-same-length-3
-same-length-3 c = search needs
-
-same-length-4 : tie.Need-same-length-4
-same-length-4 c = search needs
 
 returns-3 : tie.Need-returns-3
 returns-3 c =
@@ -49,20 +32,12 @@ returns-3 c =
     let start-dilation = c .before .before .before .before .before .before .before .before .start-dilation in
     let if2 = c .before .before .before .before .before .if2 in
     let write-record = c .before .before .write-record in
-    start-accepts (dilationRefusals (args .width) (args .height) (args .sheet .now) (args .side) (args .cells .now) (args .cap) (args .levels .now)) tt (args .levels .now) (args .words .now) (if1 .left) (start-dilation .result .refusal) (start-dilation .result .run) (start-dilation .last .1 .1 .1 .1 .1 .1 .0) (start-dilation .ensures) (if2 .left) (write-record .last .1 .0) (write-record .ensures)
+    start-accepts (dilationRefusals (args .width) (args .height) (args .sheet .now) (args .side) (args .cells .now) (args .cap)
+    (args .levels .now)) tt (args .levels .now) (args .words .now) (if1 .left) (start-dilation .result .refusal)
+    (start-dilation .result .run) (start-dilation .last .1 .1 .1 .1 .1 .1 .0) (start-dilation .ensures) (if2 .left)
+    (write-record .last .1 .0) (write-record .ensures)
 
 pub wt-start-dilation-spec : {M : Type 1} → statement M
 wt-start-dilation-spec =
-    tie.close
-    (tie.spec
-    dilation-refusal-requires
-    at-latest-requires
-    same-length
-    returns
-    start-dilation-requires
-    same-length-2
-    returns-2
-    write-record-requires
-    same-length-3
-    same-length-4
-    returns-3)
+    tie.close (tie.spec (λ c κs. search needs) (λ c κs. search needs) (λ c. search needs) returns (λ c κs. search needs)
+    (λ c. search needs) returns-2 write-record-requires (λ c. search needs) (λ c. search needs) returns-3)

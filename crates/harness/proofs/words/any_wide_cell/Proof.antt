@@ -1,6 +1,6 @@
 -- The cells that are left have a wide one exactly where all the cells have.
-use Rattle.pgm.specs.WritePgm.{anyAbove}
-use Rattle.pgm.proofs.FinishedLaws.{above-found, above-passed, above-end}
+use Rattle.basics.proofs.BoundLaws.{above-found, above-passed, above-end}
+use Rattle.basics.specs.Bounds.{anyAbove}
 use borrow.Author.Needs.{needs}
 use Prim.Native.Nat.{_-_}
 use mathlib.Core.Path.{_≡_, refl, sym, _∙_}
@@ -17,42 +17,23 @@ abbrev μ-loop : tie.MeasureT-loop
 loop-holds : tie.Need-loop-holds Inv-loop μ-loop
 loop-holds c = refl
 
-mul-if1 : tie.Need-mul-if1 Inv-loop μ-loop
-mul-if1 c = search needs
-
-shared-slice-read-if1 : tie.Need-shared-slice-read-if1 Inv-loop μ-loop
-shared-slice-read-if1 c = search needs
-
 returns : tie.Need-returns Inv-loop μ-loop
 returns c =
     let loop = c .before .before .before .loop in
-    sym (sym (loop .inv) ∙ above-found 255 (c .before .before .before .before .args .words .now) (loop .i) (c .before .before .loop-test .taken) (c .if1 .taken))
-
-add-i : tie.Need-add-i Inv-loop μ-loop
-add-i c = search needs
-
-loop-less : tie.Need-loop-less Inv-loop μ-loop
-loop-less c = search needs
+    sym (sym (loop .inv) ∙ above-found 255 (c .before .before .before .before .args .words .now) (loop .i)
+    (c .before .before .loop-test .taken) (c .if1 .taken))
 
 loop-again : tie.Need-loop-again Inv-loop μ-loop
 loop-again c =
     let loop = c .before .before .before .loop in
-    sym (above-passed 255 (c .before .before .before .before .args .words .now) (loop .i) (c .before .before .loop-test .taken) (c .if1 .left)) ∙ loop .inv
+    sym (above-passed 255 (c .before .before .before .before .args .words .now) (loop .i) (c .before .before .loop-test .taken)
+    (c .if1 .left)) ∙ loop .inv
 
 returns-2 : tie.Need-returns-2 Inv-loop μ-loop
-returns-2 c = sym (sym (c .before .loop .inv) ∙ above-end 255 (c .before .before .args .words .now) (c .before .loop .i) (c .loop-test .left))
+returns-2 c = sym (sym (c .before .loop .inv)
+    ∙ above-end 255 (c .before .before .args .words .now) (c .before .loop .i) (c .loop-test .left))
 
 pub any-wide-cell-spec : {M : Type 1} → statement M
 any-wide-cell-spec =
-    tie.close
-    (tie.spec
-    Inv-loop
-    μ-loop
-    loop-holds
-    mul-if1
-    shared-slice-read-if1
-    returns
-    add-i
-    loop-less
-    loop-again
-    returns-2)
+    tie.close (tie.spec Inv-loop μ-loop loop-holds (λ c. search needs) (λ c. search needs) returns (λ c. search needs)
+    (λ c. search needs) loop-again returns-2)

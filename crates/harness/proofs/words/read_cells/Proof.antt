@@ -18,12 +18,6 @@ abbrev μ-loop : tie.MeasureT-loop
 loop-holds : tie.Need-loop-holds Inv-loop μ-loop
 loop-holds c = filling-start _ _ _ refl
 
-add-byte-of : tie.Need-add-byte-of Inv-loop μ-loop
-add-byte-of c = search needs
-
-mul-byte-of : tie.Need-mul-byte-of Inv-loop μ-loop
-mul-byte-of c = search needs
-
 shared-slice-read-byte-of : tie.Need-shared-slice-read-byte-of Inv-loop μ-loop
 shared-slice-read-byte-of c =
     let pre = c .before .before .before .before .pre in
@@ -32,38 +26,20 @@ shared-slice-read-byte-of c =
 byte-of-requires : tie.Need-byte-of-requires Inv-loop μ-loop
 byte-of-requires c κs =
     let pre = c .before .before .before .before .pre in
-    record-cell (c .before .before .before .before .args .words .now) pre (c .before .before .loop .k) (c .before .loop-test .taken)
-
-array-write-cells : tie.Need-array-write-cells Inv-loop μ-loop
-array-write-cells c = search needs
-
-add-k : tie.Need-add-k Inv-loop μ-loop
-add-k c = search needs
-
-loop-less : tie.Need-loop-less Inv-loop μ-loop
-loop-less c = search needs
+    record-cell (c .before .before .before .before .args .words .now) pre (c .before .before .loop .k)
+    (c .before .loop-test .taken)
 
 loop-again : tie.Need-loop-again Inv-loop μ-loop
-loop-again c = filling-turn 49 _ _ _ _ (c .before .before .before .loop .inv) (c .before .before .loop-test .taken) (c .byte-of .ensures)
+loop-again c = filling-turn 49 _ _ _ _ (c .before .before .before .loop .inv) (c .before .before .loop-test .taken)
+    (c .byte-of .ensures)
 
 returns : tie.Need-returns Inv-loop μ-loop
 returns c =
     let pre = c .before .before .before .pre in
-    filling-end 49 _ _ _ (c .before .loop .inv) (c .loop-test .left) ∙ sym (record-cells (c .before .before .before .args .words .now) pre)
+    filling-end 49 _ _ _ (c .before .loop .inv) (c .loop-test .left)
+    ∙ sym (record-cells (c .before .before .before .args .words .now) pre)
 
 pub read-cells-spec : {M : Type 1} → statement M
 read-cells-spec =
-    tie.close
-    (tie.spec
-    Inv-loop
-    μ-loop
-    loop-holds
-    add-byte-of
-    mul-byte-of
-    shared-slice-read-byte-of
-    byte-of-requires
-    array-write-cells
-    add-k
-    loop-less
-    loop-again
-    returns)
+    tie.close (tie.spec Inv-loop μ-loop loop-holds (λ c. search needs) (λ c. search needs) shared-slice-read-byte-of
+    byte-of-requires (λ c. search needs) (λ c. search needs) (λ c. search needs) loop-again returns)

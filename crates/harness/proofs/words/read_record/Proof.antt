@@ -5,11 +5,9 @@ use native.Mathlib.Omega.{arith}
 use Rattle.harness.proofs.words.read_record.Statement.{statement}
 use Rattle.harness.proofs.words.read_record.Tie as tie
 
-read-cells-requires : tie.Need-read-cells-requires
-read-cells-requires c κs = search needs
-
 shared-slice-read-byte-of : tie.Need-shared-slice-read-byte-of
-shared-slice-read-byte-of c = record-word (c .before .before .before .args .words .now) (c .before .before .before .pre) 0 (omega arith)
+shared-slice-read-byte-of c =
+    record-word (c .before .before .before .args .words .now) (c .before .before .before .pre) 0 (omega arith)
 
 byte-of-requires : tie.Need-byte-of-requires
 byte-of-requires c κs = record-kind (c .before .before .before .args .words .now) (c .before .before .before .pre)
@@ -44,18 +42,10 @@ returns c =
     let pre = c .before .before .before .before .before .before .before .before .before .pre in
     let read-cells = c .before .before .before .before .before .before .before .read-cells in
     let byte-of = c .before .before .before .before .before .byte-of in
-    record-is (c .before .before .before .before .before .before .before .before .before .args .words .now) pre (read-cells .result) (byte-of .result) (read-cells .ensures) (byte-of .ensures)
+    record-is (c .before .before .before .before .before .before .before .before .before .args .words .now) pre
+    (read-cells .result) (byte-of .result) (read-cells .ensures) (byte-of .ensures)
 
 pub read-record-spec : {M : Type 1} → statement M
 read-record-spec =
-    tie.close
-    (tie.spec
-    read-cells-requires
-    shared-slice-read-byte-of
-    byte-of-requires
-    shared-slice-read-t5
-    shared-slice-read-t9
-    shared-slice-read-t12
-    shared-slice-read-t15
-    shared-slice-read-t18
-    returns)
+    tie.close (tie.spec (λ c κs. search needs) shared-slice-read-byte-of byte-of-requires shared-slice-read-t5
+    shared-slice-read-t9 shared-slice-read-t12 shared-slice-read-t15 shared-slice-read-t18 returns)

@@ -16,33 +16,16 @@ abbrev μ-loop : tie.MeasureT-loop
 loop-holds : tie.Need-loop-holds Inv-loop μ-loop
 loop-holds c = stored-none (c .before .args .words .now) (c .before .args .t1) (c .before .pre) (omega arith)
 
-array-read-word-of : tie.Need-array-read-word-of Inv-loop μ-loop
-array-read-word-of c = search needs
-
-word-of-requires : tie.Need-word-of-requires Inv-loop μ-loop
-word-of-requires c κs = search needs
-
-add-words : tie.Need-add-words Inv-loop μ-loop
-add-words c = search needs
-
-mul-words : tie.Need-mul-words Inv-loop μ-loop
-mul-words c = search needs
-
 slice-write-words : tie.Need-slice-write-words Inv-loop μ-loop
 slice-write-words c = let s = c .before .before .loop .inv .size in omega arith
-
-add-k : tie.Need-add-k Inv-loop μ-loop
-add-k c = search needs
-
-loop-less : tie.Need-loop-less Inv-loop μ-loop
-loop-less c = search needs
 
 loop-again : tie.Need-loop-again Inv-loop μ-loop
 loop-again c =
     let args = c .before .before .before .before .args in
     let pre = c .before .before .before .before .pre in
     let loop = c .before .before .loop in
-    stored-turn (args .words .now) (args .t1) pre (omega arith) (loop .k) (loop .words) (c .word-of .result) (loop .inv) (c .before .loop-test .taken) (c .word-of .ensures)
+    stored-turn (args .words .now) (args .t1) pre (omega arith) (loop .k) (loop .words) (c .word-of .result) (loop .inv)
+    (c .before .loop-test .taken) (c .word-of .ensures)
 
 same-length : tie.Need-same-length Inv-loop μ-loop
 same-length c = c .before .loop .inv .size ∙ sym (c .before .before .before .pre)
@@ -56,18 +39,5 @@ returns c =
 
 pub write-cells-spec : {M : Type 1} → statement M
 write-cells-spec =
-    tie.close
-    (tie.spec
-    Inv-loop
-    μ-loop
-    loop-holds
-    array-read-word-of
-    word-of-requires
-    add-words
-    mul-words
-    slice-write-words
-    add-k
-    loop-less
-    loop-again
-    same-length
-    returns)
+    tie.close (tie.spec Inv-loop μ-loop loop-holds (λ c. search needs) (λ c κs. search needs) (λ c. search needs)
+    (λ c. search needs) slice-write-words (λ c. search needs) (λ c. search needs) loop-again same-length returns)

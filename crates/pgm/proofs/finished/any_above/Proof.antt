@@ -1,6 +1,6 @@
 -- The levels that are left have one above exactly where all the levels have.
-use Rattle.pgm.specs.WritePgm.{anyAbove}
-use Rattle.pgm.proofs.FinishedLaws.{above-found, above-passed, above-end}
+use Rattle.basics.proofs.BoundLaws.{above-found, above-passed, above-end}
+use Rattle.basics.specs.Bounds.{anyAbove}
 use borrow.Author.Needs.{needs}
 use native.Mathlib.Omega.{arith}
 use Prim.Native.Nat.{_-_, _≤_}
@@ -18,36 +18,25 @@ abbrev μ-loop : tie.MeasureT-loop
 loop-holds : tie.Need-loop-holds Inv-loop μ-loop
 loop-holds c = (omega arith, refl)
 
-mul-wide : tie.Need-mul-wide Inv-loop μ-loop
-mul-wide c = search needs
-
-shared-slice-read-wide : tie.Need-shared-slice-read-wide Inv-loop μ-loop
-shared-slice-read-wide c = search needs
-
-wide-requires : tie.Need-wide-requires Inv-loop μ-loop
-wide-requires c κs = search needs
-
 returns : tie.Need-returns Inv-loop μ-loop
 returns c =
     let args = c .before .before .before .before .before .before .args in
     let loop = c .before .before .before .before .loop in
     let loop-test = c .before .before .before .loop-test in
     let e = c .before .wide .ensures in
-    sym (sym (loop .inv .1) ∙ above-found (args .limit) (args .levels .now) (loop .i) (loop-test .taken) (let l = c .if1 .taken in omega arith))
-
-add-i : tie.Need-add-i Inv-loop μ-loop
-add-i c = search needs
-
-loop-less : tie.Need-loop-less Inv-loop μ-loop
-loop-less c = search needs
+    sym (sym (loop .inv .1)
+    ∙ above-found (args .limit) (args .levels .now) (loop .i) (loop-test .taken) (let l = c .if1 .taken in omega arith))
 
 loop-again : tie.Need-loop-again Inv-loop μ-loop
 loop-again c =
     let args = c .before .before .before .before .before .before .args in
     let loop = c .before .before .before .before .loop in
     let loop-test = c .before .before .before .loop-test in
-    let e = c .before .wide .ensures in
-    (omega arith, sym (above-passed (args .limit) (args .levels .now) (loop .i) (loop-test .taken) (let l = c .if1 .left in omega arith)) ∙ loop .inv .1)
+    let e = c .before .wide .ensures in (
+      omega arith,
+      sym (above-passed (args .limit) (args .levels .now) (loop .i) (loop-test .taken)
+          (let l = c .if1 .left in omega arith)) ∙ loop .inv .1,
+    )
 
 returns-2 : tie.Need-returns-2 Inv-loop μ-loop
 returns-2 c =
@@ -57,16 +46,5 @@ returns-2 c =
 
 pub any-above-spec : {M : Type 1} → statement M
 any-above-spec =
-    tie.close
-    (tie.spec
-    Inv-loop
-    μ-loop
-    loop-holds
-    mul-wide
-    shared-slice-read-wide
-    wide-requires
-    returns
-    add-i
-    loop-less
-    loop-again
-    returns-2)
+    tie.close (tie.spec Inv-loop μ-loop loop-holds (λ c. search needs) (λ c. search needs) (λ c κs. search needs)
+    returns (λ c. search needs) (λ c. search needs) loop-again returns-2)

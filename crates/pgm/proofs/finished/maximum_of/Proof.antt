@@ -6,9 +6,6 @@ use native.Mathlib.Omega.{arith}
 use Rattle.pgm.proofs.finished.maximum_of.Statement.{statement}
 use Rattle.pgm.proofs.finished.maximum_of.Tie as tie
 
-larger-requires : tie.Need-larger-requires
-larger-requires c κs = search needs
-
 returns : tie.Need-returns
 returns c =
     let s = sound (c .before .before .before .args .run) (c .before .before .before .pre) in
@@ -18,7 +15,8 @@ returns c =
     (maximum-erosion (c .before .before .before .args .run) (c .before .if1 .taken) (c .larger .result) e, omega arith)
 
 add-result : tie.Need-add-result
-add-result c = let s = sound (c .before .before .before .args .run) (c .before .before .before .pre) in let l = s .cap-small in omega arith
+add-result c = let s = sound (c .before .before .before .args .run) (c .before .before .before .pre) in let l = s .cap-small in
+    omega arith
 
 returns-2 : tie.Need-returns-2
 returns-2 c =
@@ -27,4 +25,4 @@ returns-2 c =
     let s = sound (args .run) pre in let l = s .cap-small in (maximum-dilation (args .run) (c .before .if1 .left), omega arith)
 
 pub maximum-of-spec : {M : Type 1} → statement M
-maximum-of-spec = tie.close (tie.spec larger-requires returns add-result returns-2)
+maximum-of-spec = tie.close (tie.spec (λ c κs. search needs) returns add-result returns-2)

@@ -9,12 +9,6 @@ use Rattle.text.specs.Writing.{begun}
 use Rattle.pgm.proofs.finished.write_pgm.Statement.{statement}
 use Rattle.pgm.proofs.finished.write_pgm.Tie as tie
 
-pgm-refusal-requires : tie.Need-pgm-refusal-requires
-pgm-refusal-requires c κs = search needs
-
-same-length : tie.Need-same-length
-same-length c = search needs
-
 returns : tie.Need-returns
 returns c =
     let args = c .before .before .before .before .before .args in
@@ -23,12 +17,14 @@ returns c =
 maximum-of-requires : tie.Need-maximum-of-requires
 maximum-of-requires c κs =
     let args = c .before .before .before .before .before .args in
-    not-bad (args .run) (picture-accepted (args .run) (args .levels .now) (args .out .now) (sym (c .before .pgm-refusal .ensures) ∙ c .if1 .left) .0) .0
+    not-bad (args .run) (picture-accepted (args .run) (args .levels .now) (args .out .now)
+    (sym (c .before .pgm-refusal .ensures) ∙ c .if1 .left) .0) .0
 
 rows-due-requires : tie.Need-rows-due-requires
 rows-due-requires c κs =
     let args = c .before .before .before .before .before .before .args in
-    not-bad (args .run) (picture-accepted (args .run) (args .levels .now) (args .out .now) (sym (c .before .before .pgm-refusal .ensures) ∙ c .before .if1 .left) .0) .0
+    not-bad (args .run) (picture-accepted (args .run) (args .levels .now) (args .out .now)
+    (sym (c .before .before .pgm-refusal .ensures) ∙ c .before .if1 .left) .0) .0
 
 write-pgm-text-requires : tie.Need-write-pgm-text-requires
 write-pgm-text-requires c κs =
@@ -38,13 +34,12 @@ write-pgm-text-requires c κs =
     let maximum-of = c .before .before .maximum-of in
     let rows-due = c .before .rows-due in
     let q = picture-accepted (args .run) (args .levels .now) (args .out .now) (sym (pgm-refusal .ensures) ∙ if1 .left) in
-    let e = ap₂ (λ m d. pgmText (args .run .width) (args .run .height) m (args .run .rows) d (args .levels .now)) (maximum-of .ensures .0) (rows-due .ensures .0) in (
-      sound-picture (args .run) (args .levels .now) (q .0) (q .1) (maximum-of .result) (rows-due .result) (maximum-of .ensures .1) (rows-due .ensures .0),
+    let e = ap₂ (λ m d. pgmText (args .run .width) (args .run .height) m (args .run .rows) d (args .levels .now))
+    (maximum-of .ensures .0) (rows-due .ensures .0) in (
+      sound-picture (args .run) (args .levels .now) (q .0) (q .1) (maximum-of .result) (rows-due .result) (maximum-of .ensures .1)
+          (rows-due .ensures .0),
       rw e (q .2),
     )
-
-same-length-2 : tie.Need-same-length-2
-same-length-2 c = search needs
 
 returns-2 : tie.Need-returns-2
 returns-2 c =
@@ -54,19 +49,13 @@ returns-2 c =
     let maximum-of = c .before .before .before .before .before .maximum-of in
     let rows-due = c .before .before .before .before .rows-due in
     let write-pgm-text = c .before .before .write-pgm-text in
-    let e = ap₂ (λ m d. pgmText (args .run .width) (args .run .height) m (args .run .rows) d (args .levels .now)) (maximum-of .ensures .0) (rows-due .ensures .0) in
+    let e = ap₂ (λ m d. pgmText (args .run .width) (args .run .height) m (args .run .rows) d (args .levels .now))
+    (maximum-of .ensures .0) (rows-due .ensures .0) in
     let w = write-pgm-text .ensures in
-    picture-accepts (args .run) (args .levels .now) (args .out .now) (sym (pgm-refusal .ensures) ∙ if1 .left) (write-pgm-text .result) _ (w .0 ∙ ap length e) (w .1 ∙ ap (λ t. begun t (args .out .now)) e)
+    picture-accepts (args .run) (args .levels .now) (args .out .now) (sym (pgm-refusal .ensures) ∙ if1 .left)
+    (write-pgm-text .result) _ (w .0 ∙ ap length e) (w .1 ∙ ap (λ t. begun t (args .out .now)) e)
 
 pub write-pgm-spec : {M : Type 1} → statement M
 write-pgm-spec =
-    tie.close
-    (tie.spec
-    pgm-refusal-requires
-    same-length
-    returns
-    maximum-of-requires
-    rows-due-requires
-    write-pgm-text-requires
-    same-length-2
-    returns-2)
+    tie.close (tie.spec (λ c κs. search needs) (λ c. search needs) returns maximum-of-requires rows-due-requires
+    write-pgm-text-requires (λ c. search needs) returns-2)

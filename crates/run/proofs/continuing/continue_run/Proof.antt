@@ -8,34 +8,26 @@ use mathlib.Core.Path.{sym, ap, _∙_}
 use Rattle.run.proofs.continuing.continue_run.Statement.{statement}
 use Rattle.run.proofs.continuing.continue_run.Tie as tie
 
-continue-refusal-requires : tie.Need-continue-refusal-requires
-continue-refusal-requires c κs = search needs
-
-refused-requires : tie.Need-refused-requires
-refused-requires c κs = search needs
-
-same-length : tie.Need-same-length
-same-length c = search needs
-
 returns : tie.Need-returns
 returns c =
     let args = c .before .before .before .before .before .args in
-    continue-refuses (args .run) (args .levels .now) (args .allowance) _ (c .refused .result) (c .refused .ensures) (c .before .if1 .taken) (c .before .before .continue-refusal .ensures)
+    continue-refuses (args .run) (args .levels .now) (args .allowance) _ (c .refused .result) (c .refused .ensures)
+    (c .before .if1 .taken) (c .before .before .continue-refusal .ensures)
 
 rows-due-requires : tie.Need-rows-due-requires
 rows-due-requires c κs =
     let args = c .before .before .before .before .args in
-    not-bad (args .run) (continue-accepted (args .run) (args .levels .now) (args .allowance) (sym (c .before .continue-refusal .ensures) ∙ c .if1 .left) .0) .0
+    not-bad (args .run) (continue-accepted (args .run) (args .levels .now) (args .allowance)
+    (sym (c .before .continue-refusal .ensures) ∙ c .if1 .left) .0) .0
 
 sub-lesser : tie.Need-sub-lesser
 sub-lesser c =
     let args = c .before .before .before .before .before .args in
-    let b = not-bad (args .run) (continue-accepted (args .run) (args .levels .now) (args .allowance) (sym (c .before .before .continue-refusal .ensures) ∙ c .before .if1 .left) .0) .1 in
+    let b = not-bad (args .run)
+    (continue-accepted (args .run) (args .levels .now) (args .allowance)
+    (sym (c .before .before .continue-refusal .ensures) ∙ c .before .if1 .left) .0) .1 in
     let e = c .rows-due .ensures .0 in
     omega arith
-
-lesser-requires : tie.Need-lesser-requires
-lesser-requires c κs = search needs
 
 work-rows-requires : tie.Need-work-rows-requires
 work-rows-requires c κs =
@@ -56,13 +48,11 @@ add-with-rows c =
     let if1 = c .before .before .before .before .before .before .if1 in
     let rows-due = c .before .before .before .before .before .rows-due in
     let lesser = c .before .before .before .before .lesser in
-    let b = not-bad (args .run) (continue-accepted (args .run) (args .levels .now) (args .allowance) (sym (continue-refusal .ensures) ∙ if1 .left) .0) .1 in
+    let b = not-bad (args .run)
+    (continue-accepted (args .run) (args .levels .now) (args .allowance) (sym (continue-refusal .ensures) ∙ if1 .left) .0) .1 in
     let e = rows-due .ensures in
     let l = lesser .ensures in
     omega arith
-
-with-rows-requires : tie.Need-with-rows-requires
-with-rows-requires c κs = search needs
 
 add-t12 : tie.Need-add-t12
 add-t12 c =
@@ -71,13 +61,11 @@ add-t12 c =
     let if1 = c .before .before .before .before .before .before .before .if1 in
     let rows-due = c .before .before .before .before .before .before .rows-due in
     let lesser = c .before .before .before .before .before .lesser in
-    let b = not-bad (args .run) (continue-accepted (args .run) (args .levels .now) (args .allowance) (sym (continue-refusal .ensures) ∙ if1 .left) .0) .1 in
+    let b = not-bad (args .run)
+    (continue-accepted (args .run) (args .levels .now) (args .allowance) (sym (continue-refusal .ensures) ∙ if1 .left) .0) .1 in
     let e = rows-due .ensures in
     let l = lesser .ensures in
     omega arith
-
-same-length-2 : tie.Need-same-length-2
-same-length-2 c = search needs
 
 returns-2 : tie.Need-returns-2
 returns-2 c =
@@ -87,23 +75,13 @@ returns-2 c =
     let rows-due = c .before .before .before .before .before .before .rows-due in
     let lesser = c .before .before .before .before .before .lesser in
     let work-rows = c .before .before .before .work-rows in
-    continue-accepts (args .run) (args .levels .now) (args .allowance) (sym (continue-refusal .ensures) ∙ if1 .left) (c .with-rows .result) (work-rows .last .1 .0) (lesser .result) (rows-due .result)
-    (lesser .ensures ∙ ap (λ n. min (args .allowance) (n - args .run .rows)) (rows-due .ensures .0)) (rows-due .ensures .0) (c .with-rows .ensures) (work-rows .ensures)
+    continue-accepts (args .run) (args .levels .now) (args .allowance) (sym (continue-refusal .ensures) ∙ if1 .left)
+    (c .with-rows .result) (work-rows .last .1 .0) (lesser .result) (rows-due .result)
+    (lesser .ensures ∙ ap (λ n. min (args .allowance) (n - args .run .rows)) (rows-due .ensures .0)) (rows-due .ensures .0)
+    (c .with-rows .ensures) (work-rows .ensures)
 
 pub continue-run-spec : {M : Type 1} → statement M
 continue-run-spec =
-    tie.close
-    (tie.spec
-    continue-refusal-requires
-    refused-requires
-    same-length
-    returns
-    rows-due-requires
-    sub-lesser
-    lesser-requires
-    work-rows-requires
-    add-with-rows
-    with-rows-requires
-    add-t12
-    same-length-2
-    returns-2)
+    tie.close (tie.spec (λ c κs. search needs) (λ c κs. search needs) (λ c. search needs) returns rows-due-requires
+    sub-lesser (λ c κs. search needs) work-rows-requires add-with-rows (λ c κs. search needs) add-t12
+    (λ c. search needs) returns-2)

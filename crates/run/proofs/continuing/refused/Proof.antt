@@ -4,11 +4,8 @@ use borrow.Author.Needs.{needs}
 use Rattle.run.proofs.continuing.refused.Statement.{statement}
 use Rattle.run.proofs.continuing.refused.Tie as tie
 
-no-record-requires : tie.Need-no-record-requires
-no-record-requires c κs = search needs
-
 returns : tie.Need-returns
 returns c = λ i. record { refusal = c .before .args .number; run = c .no-record .ensures i; done = false }
 
 pub refused-spec : {M : Type 1} → statement M
-refused-spec = tie.close (tie.spec no-record-requires returns)
+refused-spec = tie.close (tie.spec (λ c κs. search needs) returns)

@@ -6,19 +6,15 @@ use mathlib.Core.Path.{ap, _∙_}
 use Rattle.run.proofs.continuing.scan_cells.Statement.{statement}
 use Rattle.run.proofs.continuing.scan_cells.Tie as tie
 
-rows-of-requires : tie.Need-rows-of-requires
-rows-of-requires c κs = search needs
-
 returns : tie.Need-returns
-returns c = rw (eq-eqb (c .before .before .before .before .args .run .kind) 1 (c .if1 .taken)) (c .before .before .rows-of .ensures)
-
-turned-cells-requires : tie.Need-turned-cells-requires
-turned-cells-requires c κs = search needs
+returns c = rw (eq-eqb (c .before .before .before .before .args .run .kind) 1 (c .if1 .taken))
+    (c .before .before .rows-of .ensures)
 
 returns-2 : tie.Need-returns-2
 returns-2 c =
     let rows-of = c .before .before .before .rows-of in
-    rw (ne-eqb (c .before .before .before .before .before .args .run .kind) 1 (c .before .if1 .left)) (c .turned-cells .ensures ∙ ap turned (rows-of .ensures))
+    rw (ne-eqb (c .before .before .before .before .before .args .run .kind) 1 (c .before .if1 .left))
+    (c .turned-cells .ensures ∙ ap turned (rows-of .ensures))
 
 pub scan-cells-spec : {M : Type 1} → statement M
-scan-cells-spec = tie.close (tie.spec rows-of-requires returns turned-cells-requires returns-2)
+scan-cells-spec = tie.close (tie.spec (λ c κs. search needs) returns (λ c κs. search needs) returns-2)

@@ -8,18 +8,6 @@ use native.Mathlib.Omega.{arith}
 use Rattle.run.proofs.continuing.work_rows.Statement.{statement}
 use Rattle.run.proofs.continuing.work_rows.Tie as tie
 
-area-width-requires : tie.Need-area-width-requires
-area-width-requires c κs = search needs
-
-area-height-requires : tie.Need-area-height-requires
-area-height-requires c κs = search needs
-
-scan-cells-requires : tie.Need-scan-cells-requires
-scan-cells-requires c κs = search needs
-
-beyond-of-requires : tie.Need-beyond-of-requires
-beyond-of-requires c κs = search needs
-
 sub-reach : tie.Need-sub-reach
 sub-reach c =
     let args = c .before .before .before .before .before .before .args in
@@ -40,9 +28,6 @@ scan-rows-requires c κs =
       (omega arith, rw (scan-cells .ensures) (scan-reaches (args .run) s)),
     )
 
-same-length : tie.Need-same-length
-same-length c = search needs
-
 returns : tie.Need-returns
 returns c =
     let args = c .before .before .before .before .before .before .before .before .before .before .args in
@@ -51,18 +36,11 @@ returns c =
     let area-height = c .before .before .before .before .before .before .before .area-height in
     let scan-cells = c .before .before .before .before .before .before .scan-cells in
     let beyond-of = c .before .before .before .before .before .beyond-of in
-    work-rows (args .run) (sound (args .run) (pre .0)) (args .levels .now) (pre .1 .0) _ _ (area-width .ensures .0) (area-height .ensures .0) _ _
+    work-rows (args .run) (sound (args .run) (pre .0)) (args .levels .now) (pre .1 .0) _ _ (area-width .ensures .0)
+    (area-height .ensures .0) _ _
     (beyond-of .ensures) (scan-cells .ensures) (args .run .rows) (args .count) _ (c .before .before .scan-rows .ensures)
 
 pub work-rows-spec : {M : Type 1} → statement M
 work-rows-spec =
-    tie.close
-    (tie.spec
-    area-width-requires
-    area-height-requires
-    scan-cells-requires
-    beyond-of-requires
-    sub-reach
-    scan-rows-requires
-    same-length
-    returns)
+    tie.close (tie.spec (λ c κs. search needs) (λ c κs. search needs) (λ c κs. search needs) (λ c κs. search needs)
+    sub-reach scan-rows-requires (λ c. search needs) returns)

@@ -14,29 +14,23 @@ Inv-loop levels width height margin limit out₀ side row₀ out row =
 abbrev μ-loop : tie.MeasureT-loop
 μ-loop levels width height margin limit out₀ side row₀ out row = height - row
 
-add-side : tie.Need-add-side Inv-loop μ-loop
-add-side c = search needs
-
-add-side-2 : tie.Need-add-side-2 Inv-loop μ-loop
-add-side-2 c = search needs
-
 loop-holds : tie.Need-loop-holds Inv-loop μ-loop
 loop-holds c = (omega arith, rows-none)
 
-add-copy-row : tie.Need-add-copy-row Inv-loop μ-loop
-add-copy-row c = search needs
-
 mul-copy-row : tie.Need-mul-copy-row Inv-loop μ-loop
-mul-copy-row c = let s = frame-room (c .before .before .before .before .pre .0) (c .before .loop .row) (c .loop-test .taken) in omega arith
+mul-copy-row c = let s = frame-room (c .before .before .before .before .pre .0) (c .before .loop .row) (c .loop-test .taken) in
+    omega arith
 
 add-copy-row-2 : tie.Need-add-copy-row-2 Inv-loop μ-loop
-add-copy-row-2 c = let s = frame-room (c .before .before .before .before .pre .0) (c .before .loop .row) (c .loop-test .taken) in omega arith
+add-copy-row-2 c = let s = frame-room (c .before .before .before .before .pre .0) (c .before .loop .row) (c .loop-test .taken) in
+    omega arith
 
 mul-copy-row-2 : tie.Need-mul-copy-row-2 Inv-loop μ-loop
 mul-copy-row-2 c =
     let args = c .before .before .before .before .before .args in
     let pre = c .before .before .before .before .before .pre in
-    let s = row-end (args .width) (args .height) (c .before .before .loop .row) (c .before .loop-test .taken) in let e = pre .1 in omega arith
+    let s = row-end (args .width) (args .height) (c .before .before .loop .row) (c .before .loop-test .taken) in let e = pre .1 in
+    omega arith
 
 copy-row-requires : tie.Need-copy-row-requires Inv-loop μ-loop
 copy-row-requires c κs =
@@ -46,40 +40,27 @@ copy-row-requires c κs =
     let long = c .before .before .loop .inv .1 .filled .size in
     (omega arith, omega arith)
 
-add-row : tie.Need-add-row Inv-loop μ-loop
-add-row c = search needs
-
 loop-less : tie.Need-loop-less Inv-loop μ-loop
 loop-less c = omega arith
 
 loop-again : tie.Need-loop-again Inv-loop μ-loop
 loop-again c =
     let args = c .before .before .before .before .before .before .before .before .args in
-    let loop = c .before .before .before .before .before .loop in
-    (omega arith, copied-row (args .width) (args .margin) (args .levels .now) (args .limit) (loop .inv .1) (c .before .before .copy-row .ensures))
+    let loop = c .before .before .before .before .before .loop in (
+      omega arith,
+      copied-row (args .width) (args .margin) (args .levels .now) (args .limit) (loop .inv .1)
+          (c .before .before .copy-row .ensures),
+    )
 
 same-length : tie.Need-same-length Inv-loop μ-loop
 same-length c = c .before .loop .inv .1 .filled .size
 
 returns : tie.Need-returns Inv-loop μ-loop
-returns c = rows-all (c .before .loop .inv .1) (c .before .before .before .before .args .height) (omega arith) (c .before .before .before .before .pre .1)
+returns c = rows-all (c .before .loop .inv .1) (c .before .before .before .before .args .height) (omega arith)
+    (c .before .before .before .before .pre .1)
 
 pub copy-frame-spec : {M : Type 1} → statement M
 copy-frame-spec =
-    tie.close
-    (tie.spec
-    Inv-loop
-    μ-loop
-    add-side
-    add-side-2
-    loop-holds
-    add-copy-row
-    mul-copy-row
-    add-copy-row-2
-    mul-copy-row-2
-    copy-row-requires
-    add-row
-    loop-less
-    loop-again
-    same-length
+    tie.close (tie.spec Inv-loop μ-loop (λ c. search needs) (λ c. search needs) loop-holds (λ c. search needs)
+    mul-copy-row add-copy-row-2 mul-copy-row-2 copy-row-requires (λ c. search needs) loop-less loop-again same-length
     returns)

@@ -17,58 +17,17 @@ abbrev μ-loop : tie.MeasureT-loop
 loop-holds : tie.Need-loop-holds Inv-loop μ-loop
 loop-holds c = (omega arith, patch-none _ _ _)
 
-add-limited : tie.Need-add-limited Inv-loop μ-loop
-add-limited c = search needs
-
-mul-limited : tie.Need-mul-limited Inv-loop μ-loop
-mul-limited c = search needs
-
-shared-slice-read-limited : tie.Need-shared-slice-read-limited Inv-loop μ-loop
-shared-slice-read-limited c = search needs
-
-limited-requires : tie.Need-limited-requires Inv-loop μ-loop
-limited-requires c κs = search needs
-
-add-out : tie.Need-add-out Inv-loop μ-loop
-add-out c = search needs
-
-mul-out : tie.Need-mul-out Inv-loop μ-loop
-mul-out c = search needs
-
-slice-write-out : tie.Need-slice-write-out Inv-loop μ-loop
-slice-write-out c = search needs
-
-add-i : tie.Need-add-i Inv-loop μ-loop
-add-i c = search needs
-
-loop-less : tie.Need-loop-less Inv-loop μ-loop
-loop-less c = search needs
-
 loop-again : tie.Need-loop-again Inv-loop μ-loop
-loop-again c = (omega arith, patch-turn (c .before .before .before .loop .inv .1) (c .limited .result) (omega arith) (c .limited .ensures))
-
-same-length : tie.Need-same-length Inv-loop μ-loop
-same-length c = search needs
+loop-again c = (
+  omega arith,
+  patch-turn (c .before .before .before .loop .inv .1) (c .limited .result) (omega arith) (c .limited .ensures),
+)
 
 returns : tie.Need-returns Inv-loop μ-loop
 returns c = patch-all (c .before .loop .inv .1) (c .before .before .before .before .args .n) (omega arith)
 
 pub copy-row-spec : {M : Type 1} → statement M
 copy-row-spec =
-    tie.close
-    (tie.spec
-    Inv-loop
-    μ-loop
-    loop-holds
-    add-limited
-    mul-limited
-    shared-slice-read-limited
-    limited-requires
-    add-out
-    mul-out
-    slice-write-out
-    add-i
-    loop-less
-    loop-again
-    same-length
-    returns)
+    tie.close (tie.spec Inv-loop μ-loop loop-holds (λ c. search needs) (λ c. search needs) (λ c. search needs)
+    (λ c κs. search needs) (λ c. search needs) (λ c. search needs) (λ c. search needs) (λ c. search needs)
+    (λ c. search needs) loop-again (λ c. search needs) returns)

@@ -6,22 +6,14 @@ use borrow.Author.Needs.{needs}
 use Rattle.run.proofs.pictures.held_weight.Statement.{statement}
 use Rattle.run.proofs.pictures.held_weight.Tie as tie
 
-held-requires : tie.Need-held-requires
-held-requires c κs = search needs
-
 returns : tie.Need-returns
 returns c = counts-none (weight (c .before .before .args .col % 8)) (c .before .held .ensures) (c .if1 .taken)
-
-cast-result : tie.Need-cast-result
-cast-result c = search needs
-
-shr-result : tie.Need-shr-result
-shr-result c = search needs
 
 returns-2 : tie.Need-returns-2
 returns-2 c =
     let args = c .before .before .args in
-    counts-one (weight (args .col % 8)) (c .before .held .ensures) (c .if1 .left) (held-binary (args .low) (args .high) (args .level))
+    counts-one (weight (args .col % 8)) (c .before .held .ensures) (c .if1 .left)
+    (held-binary (args .low) (args .high) (args .level))
 
 pub held-weight-spec : {M : Type 1} → statement M
-held-weight-spec = tie.close (tie.spec held-requires returns cast-result shr-result returns-2)
+held-weight-spec = tie.close (tie.spec (λ c κs. search needs) returns (λ c. search needs) (λ c. search needs) returns-2)

@@ -7,14 +7,8 @@ use Rattle.run.proofs.pictures.highest_held.Tie as tie
 returns : tie.Need-returns
 returns c = where-one _ _ _ (c .if1 .taken)
 
-cast-result : tie.Need-cast-result
-cast-result c = search needs
-
-add-result : tie.Need-add-result
-add-result c = search needs
-
 returns-2 : tie.Need-returns-2
 returns-2 c = where-other _ _ _ (c .if1 .left)
 
 pub highest-held-spec : {M : Type 1} → statement M
-highest-held-spec = tie.close (tie.spec returns cast-result add-result returns-2)
+highest-held-spec = tie.close (tie.spec returns (λ c. search needs) (λ c. search needs) returns-2)

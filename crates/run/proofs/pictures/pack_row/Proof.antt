@@ -1,4 +1,5 @@
--- The loop's invariant: the row's bytes are those of the first columns alone, packed. A column adds its bit's weight to its byte, which stays below 256.
+-- The loop's invariant: the row's bytes are those of the first columns alone, packed. A column adds its bit's weight to its byte,
+-- which stays below 256.
 use Rattle.run.specs.Patches.{heldBetween}
 use Rattle.run.proofs.LevelLaws.{held-binary}
 use Rattle.run.proofs.PackLaws.{Packing, packing-start, packing-place, packing-fits, packing-turn, packing-end}
@@ -17,31 +18,11 @@ Inv-loop levels from width low high out₀ at col₀ out col =
 abbrev μ-loop : tie.MeasureT-loop
 μ-loop levels from width low high out₀ at col₀ out col = width - col
 
-row-bytes-requires : tie.Need-row-bytes-requires Inv-loop μ-loop
-row-bytes-requires c κs = search needs
-
-clear-requires : tie.Need-clear-requires Inv-loop μ-loop
-clear-requires c κs = search needs
-
 loop-holds : tie.Need-loop-holds Inv-loop μ-loop
 loop-holds c =
     let start = c .before .before .before .before .before .before .before in
-    packing-start (start .args .width) (c .before .before .clear .ensures) (c .before .before .before .row-bytes .ensures) (start .pre .1 .1)
-
-add-held-weight : tie.Need-add-held-weight Inv-loop μ-loop
-add-held-weight c = search needs
-
-mul-held-weight : tie.Need-mul-held-weight Inv-loop μ-loop
-mul-held-weight c = search needs
-
-shared-slice-read-held-weight : tie.Need-shared-slice-read-held-weight Inv-loop μ-loop
-shared-slice-read-held-weight c = search needs
-
-held-weight-requires : tie.Need-held-weight-requires Inv-loop μ-loop
-held-weight-requires c κs = search needs
-
-add-byte : tie.Need-add-byte Inv-loop μ-loop
-add-byte c = search needs
+    packing-start (start .args .width) (c .before .before .clear .ensures) (c .before .before .before .row-bytes .ensures)
+    (start .pre .1 .1)
 
 slice-read-byte : tie.Need-slice-read-byte Inv-loop μ-loop
 slice-read-byte c = packing-place (c .before .before .before .before .loop .inv) (c .before .before .before .loop-test .taken)
@@ -52,17 +33,12 @@ add-out c =
     let loop = c .before .before .before .before .loop in
     let loop-test = c .before .before .before .loop-test in
     let held-weight = c .before .held-weight in
-    let s = packing-fits (loop .inv) (loop-test .taken) (held-weight .result) (held-weight .ensures) (λ col. held-binary (args .low) (args .high) (getD (args .levels .now) (args .from + col) 0)) in
+    let s = packing-fits (loop .inv) (loop-test .taken) (held-weight .result) (held-weight .ensures)
+    (λ col. held-binary (args .low) (args .high) (getD (args .levels .now) (args .from + col) 0)) in
     omega arith
-
-add-out-2 : tie.Need-add-out-2 Inv-loop μ-loop
-add-out-2 c = search needs
 
 slice-write-out : tie.Need-slice-write-out Inv-loop μ-loop
 slice-write-out c = packing-place (c .before .before .before .before .loop .inv) (c .before .before .before .loop-test .taken)
-
-add-col : tie.Need-add-col Inv-loop μ-loop
-add-col c = search needs
 
 loop-less : tie.Need-loop-less Inv-loop μ-loop
 loop-less c = omega arith
@@ -81,28 +57,11 @@ returns : tie.Need-returns Inv-loop μ-loop
 returns c =
     let row-bytes = c .before .before .before .before .before .row-bytes in
     let clear = c .before .before .before .before .clear in
-    packing-end (c .before .before .before .before .before .before .before .before .before .args .width) (clear .ensures) (row-bytes .ensures) (c .before .loop .inv) (c .loop-test .left)
+    packing-end (c .before .before .before .before .before .before .before .before .before .args .width) (clear .ensures)
+    (row-bytes .ensures) (c .before .loop .inv) (c .loop-test .left)
 
 pub pack-row-spec : {M : Type 1} → statement M
 pack-row-spec =
-    tie.close
-    (tie.spec
-    Inv-loop
-    μ-loop
-    row-bytes-requires
-    clear-requires
-    loop-holds
-    add-held-weight
-    mul-held-weight
-    shared-slice-read-held-weight
-    held-weight-requires
-    add-byte
-    slice-read-byte
-    add-out
-    add-out-2
-    slice-write-out
-    add-col
-    loop-less
-    loop-again
-    same-length
-    returns)
+    tie.close (tie.spec Inv-loop μ-loop (λ c κs. search needs) (λ c κs. search needs) loop-holds (λ c. search needs)
+    (λ c. search needs) (λ c. search needs) (λ c κs. search needs) (λ c. search needs) slice-read-byte add-out
+    (λ c. search needs) slice-write-out (λ c. search needs) loop-less loop-again same-length returns)

@@ -18,48 +18,34 @@ abbrev μ-loop : tie.MeasureT-loop
 loop-holds : tie.Need-loop-holds Inv-loop μ-loop
 loop-holds c = (omega arith, (omega arith, refl))
 
-array-read-is-outside : tie.Need-array-read-is-outside Inv-loop μ-loop
-array-read-is-outside c = search needs
-
-is-outside-requires : tie.Need-is-outside-requires Inv-loop μ-loop
-is-outside-requires c κs = search needs
-
 returns : tie.Need-returns Inv-loop μ-loop
 returns c =
     let args = c .before .before .before .before .args in
     let loop = c .before .before .before .loop in
     let i = loop .inv in
-    sym (sym (i .1 .1) ∙ outside-found (args .side) (args .t2) (loop .k) (let l = i .1 .0 in omega arith) (sym (c .before .is-outside .ensures) ∙ c .if1 .taken))
-
-add-k : tie.Need-add-k Inv-loop μ-loop
-add-k c = search needs
-
-loop-less : tie.Need-loop-less Inv-loop μ-loop
-loop-less c = search needs
+    sym (sym (i .1 .1) ∙ outside-found (args .side) (args .t2) (loop .k) (let l = i .1 .0 in omega arith)
+    (sym (c .before .is-outside .ensures) ∙ c .if1 .taken))
 
 loop-again : tie.Need-loop-again Inv-loop μ-loop
 loop-again c =
     let args = c .before .before .before .before .args in
     let loop = c .before .before .before .loop in
-    let i = loop .inv in
-    (omega arith, (i .1 .0, sym (outside-passed (args .side) (args .t2) (loop .k) (let l = i .1 .0 in omega arith) (sym (c .before .is-outside .ensures) ∙ c .if1 .left)) ∙ i .1 .1))
+    let i = loop .inv in (
+      omega arith,
+      (
+        i .1 .0,
+        sym (outside-passed (args .side) (args .t2) (loop .k) (let l = i .1 .0 in omega arith)
+            (sym (c .before .is-outside .ensures) ∙ c .if1 .left)) ∙ i .1 .1,
+      ),
+    )
 
 returns-2 : tie.Need-returns-2 Inv-loop μ-loop
 returns-2 c =
     let i = c .before .loop .inv in
-    sym (sym (i .1 .1) ∙ outside-end (c .before .before .args .side) (c .before .before .args .t2) (c .before .loop .k) (let l = i .1 .0 in omega arith))
+    sym (sym (i .1 .1) ∙ outside-end (c .before .before .args .side) (c .before .before .args .t2) (c .before .loop .k)
+    (let l = i .1 .0 in omega arith))
 
 pub any-outside-spec : {M : Type 1} → statement M
 any-outside-spec =
-    tie.close
-    (tie.spec
-    Inv-loop
-    μ-loop
-    loop-holds
-    array-read-is-outside
-    is-outside-requires
-    returns
-    add-k
-    loop-less
-    loop-again
-    returns-2)
+    tie.close (tie.spec Inv-loop μ-loop loop-holds (λ c. search needs) (λ c κs. search needs) returns
+    (λ c. search needs) (λ c. search needs) loop-again returns-2)

@@ -10,9 +10,6 @@ use Rattle.run.proofs.records.area_width.Tie as tie
 margin-of-requires : tie.Need-margin-of-requires
 margin-of-requires c κs = let s = sound (c .args .run) (c .pre) in (s .side-is, s .cap-small)
 
-add-result : tie.Need-add-result
-add-result c = search needs
-
 add-result-2 : tie.Need-add-result-2
 add-result-2 c = let s = sound (c .before .before .args .run) (c .before .before .pre) in let h = s .wide in omega arith
 
@@ -26,4 +23,4 @@ returns c =
     (e, (omega arith, omega arith))
 
 pub area-width-spec : {M : Type 1} → statement M
-area-width-spec = tie.close (tie.spec margin-of-requires add-result add-result-2 returns)
+area-width-spec = tie.close (tie.spec margin-of-requires (λ c. search needs) add-result-2 returns)

@@ -11,16 +11,8 @@ returns-2 : tie.Need-returns-2
 returns-2 c = cap-kind (c .before .before .before .before .args .run) (c .before .before .if1 .left) (c .if2 .taken)
 
 returns-3 : tie.Need-returns-3
-returns-3 c = cap-large (c .before .before .before .before .before .args .run) (c .before .before .before .if1 .left) (c .before .if2 .left) (c .if3 .taken)
-
-margin-of-requires : tie.Need-margin-of-requires
-margin-of-requires c κs = search needs
-
-add-if4 : tie.Need-add-if4
-add-if4 c = search needs
-
-add-if4-2 : tie.Need-add-if4-2
-add-if4-2 c = search needs
+returns-3 c = cap-large (c .before .before .before .before .before .args .run) (c .before .before .before .if1 .left)
+    (c .before .if2 .left) (c .if3 .taken)
 
 returns-4 : tie.Need-returns-4
 returns-4 c =
@@ -28,13 +20,8 @@ returns-4 c =
     let if2 = c .before .before .before .before .if2 in
     let if3 = c .before .before .before .if3 in
     let margin-of = c .before .before .margin-of in
-    cap-width (c .before .before .before .before .before .before .before .before .args .run) (if1 .left) (if2 .left) (if3 .left) (margin-of .result) (margin-of .ensures .0) (c .if4 .taken)
-
-add-result : tie.Need-add-result
-add-result c = search needs
-
-add-result-2 : tie.Need-add-result-2
-add-result-2 c = search needs
+    cap-width (c .before .before .before .before .before .before .before .before .args .run) (if1 .left) (if2 .left) (if3 .left)
+    (margin-of .result) (margin-of .ensures .0) (c .if4 .taken)
 
 returns-5 : tie.Need-returns-5
 returns-5 c =
@@ -42,19 +29,10 @@ returns-5 c =
     let if2 = c .before .before .before .before .before .if2 in
     let if3 = c .before .before .before .before .if3 in
     let margin-of = c .before .before .before .margin-of in
-    cap-height (c .before .before .before .before .before .before .before .before .before .args .run) (if1 .left) (if2 .left) (if3 .left) (margin-of .result) (margin-of .ensures .0) (c .before .if4 .left)
+    cap-height (c .before .before .before .before .before .before .before .before .before .args .run) (if1 .left) (if2 .left)
+    (if3 .left) (margin-of .result) (margin-of .ensures .0) (c .before .if4 .left)
 
 pub cap-foreign-spec : {M : Type 1} → statement M
 cap-foreign-spec =
-    tie.close
-    (tie.spec
-    returns
-    returns-2
-    returns-3
-    margin-of-requires
-    add-if4
-    add-if4-2
-    returns-4
-    add-result
-    add-result-2
-    returns-5)
+    tie.close (tie.spec returns returns-2 returns-3 (λ c κs. search needs) (λ c. search needs) (λ c. search needs)
+    returns-4 (λ c. search needs) (λ c. search needs) returns-5)

@@ -6,27 +6,21 @@ use mathlib.Core.Path.{sym, _∙_}
 use Rattle.run.proofs.records.element_foreign.Statement.{statement}
 use Rattle.run.proofs.records.element_foreign.Tie as tie
 
-is-side-requires : tie.Need-is-side-requires
-is-side-requires c κs = search needs
-
 returns : tie.Need-returns
-returns c = element-side (c .before .before .args .side) (c .before .before .args .t2) (sym (c .before .is-side .ensures) ∙ not-true _ (c .if1 .taken))
-
-slice-aggregate-any-above-one : tie.Need-slice-aggregate-any-above-one
-slice-aggregate-any-above-one c = search needs
-
-any-above-one-requires : tie.Need-any-above-one-requires
-any-above-one-requires c κs = search needs
+returns c = element-side (c .before .before .args .side) (c .before .before .args .t2)
+    (sym (c .before .is-side .ensures) ∙ not-true _ (c .if1 .taken))
 
 returns-2 : tie.Need-returns-2
 returns-2 c =
     let args = c .before .before .before .before .before .args in
     let is-side = c .before .before .before .before .is-side in
     let if1 = c .before .before .before .if1 in
-    element-byte (args .side) (args .t2) (sym (is-side .ensures) ∙ not-false _ (if1 .left)) (sym (c .before .any-above-one .ensures) ∙ c .if2 .taken)
+    element-byte (args .side) (args .t2) (sym (is-side .ensures) ∙ not-false _ (if1 .left))
+    (sym (c .before .any-above-one .ensures) ∙ c .if2 .taken)
 
 any-outside-requires : tie.Need-any-outside-requires
-any-outside-requires c κs = sym (c .before .before .before .before .is-side .ensures) ∙ not-false _ (c .before .before .before .if1 .left)
+any-outside-requires c κs = sym (c .before .before .before .before .is-side .ensures)
+    ∙ not-false _ (c .before .before .before .if1 .left)
 
 returns-3 : tie.Need-returns-3
 returns-3 c =
@@ -34,10 +28,8 @@ returns-3 c =
     let is-side = c .before .before .before .before .before .before .is-side in
     let if1 = c .before .before .before .before .before .if1 in
     let any-above-one = c .before .before .before .any-above-one in
-    element-outside (args .side) (args .t2) (sym (is-side .ensures) ∙ not-false _ (if1 .left)) (sym (any-above-one .ensures) ∙ c .before .before .if2 .left) (sym (c .before .any-outside .ensures) ∙ c .if3 .taken)
-
-array-read-if4 : tie.Need-array-read-if4
-array-read-if4 c = search needs
+    element-outside (args .side) (args .t2) (sym (is-side .ensures) ∙ not-false _ (if1 .left))
+    (sym (any-above-one .ensures) ∙ c .before .before .if2 .left) (sym (c .before .any-outside .ensures) ∙ c .if3 .taken)
 
 returns-4 : tie.Need-returns-4
 returns-4 c =
@@ -46,13 +38,9 @@ returns-4 c =
     let if1 = c .before .before .before .before .before .before .if1 in
     let any-above-one = c .before .before .before .before .any-above-one in
     let if2 = c .before .before .before .if2 in
-    element-centre (args .side) (args .t2) (sym (is-side .ensures) ∙ not-false _ (if1 .left)) (sym (any-above-one .ensures) ∙ if2 .left) (sym (c .before .before .any-outside .ensures) ∙ c .before .if3 .left) (c .if4 .taken)
-
-slice-aggregate-count-set : tie.Need-slice-aggregate-count-set
-slice-aggregate-count-set c = search needs
-
-count-set-requires : tie.Need-count-set-requires
-count-set-requires c κs = search needs
+    element-centre (args .side) (args .t2) (sym (is-side .ensures) ∙ not-false _ (if1 .left))
+    (sym (any-above-one .ensures) ∙ if2 .left) (sym (c .before .before .any-outside .ensures) ∙ c .before .if3 .left)
+    (c .if4 .taken)
 
 returns-5 : tie.Need-returns-5
 returns-5 c =
@@ -63,21 +51,11 @@ returns-5 c =
     let if2 = c .before .before .before .before .before .if2 in
     let any-outside = c .before .before .before .before .any-outside in
     let if3 = c .before .before .before .if3 in
-    element-others (args .side) (args .t2) (sym (is-side .ensures) ∙ not-false _ (if1 .left)) (sym (any-above-one .ensures) ∙ if2 .left) (sym (any-outside .ensures) ∙ if3 .left) (c .before .before .if4 .left) (c .count-set .result) (c .count-set .ensures)
+    element-others (args .side) (args .t2) (sym (is-side .ensures) ∙ not-false _ (if1 .left))
+    (sym (any-above-one .ensures) ∙ if2 .left) (sym (any-outside .ensures) ∙ if3 .left) (c .before .before .if4 .left)
+    (c .count-set .result) (c .count-set .ensures)
 
 pub element-foreign-spec : {M : Type 1} → statement M
 element-foreign-spec =
-    tie.close
-    (tie.spec
-    is-side-requires
-    returns
-    slice-aggregate-any-above-one
-    any-above-one-requires
-    returns-2
-    any-outside-requires
-    returns-3
-    array-read-if4
-    returns-4
-    slice-aggregate-count-set
-    count-set-requires
-    returns-5)
+    tie.close (tie.spec (λ c κs. search needs) returns (λ c. search needs) (λ c κs. search needs) returns-2
+    any-outside-requires returns-3 (λ c. search needs) returns-4 (λ c. search needs) (λ c κs. search needs) returns-5)

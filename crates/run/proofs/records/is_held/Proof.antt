@@ -15,11 +15,8 @@ sub-before-2 c = let b = side-bounds (c .args .side) (c .pre) in omega arith
 returns : tie.Need-returns
 returns c = held-before (c .before .args .side) (c .before .args .p) (c .if1 .taken)
 
-add-result : tie.Need-add-result
-add-result c = search needs
-
 returns-2 : tie.Need-returns-2
 returns-2 c = held-from (c .before .args .side) (c .before .args .p) (c .if1 .left)
 
 pub is-held-spec : {M : Type 1} → statement M
-is-held-spec = tie.close (tie.spec sub-before sub-before-2 returns add-result returns-2)
+is-held-spec = tie.close (tie.spec sub-before sub-before-2 returns (λ c. search needs) returns-2)

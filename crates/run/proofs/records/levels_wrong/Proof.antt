@@ -10,19 +10,14 @@ use lib.ListN.{length}
 use Rattle.run.proofs.records.levels_wrong.Statement.{statement}
 use Rattle.run.proofs.records.levels_wrong.Tie as tie
 
-area-height-requires : tie.Need-area-height-requires
-area-height-requires c κs = search needs
-
-area-width-requires : tie.Need-area-width-requires
-area-width-requires c κs = search needs
-
 mul-result : tie.Need-mul-result
 mul-result c = let s = area-small _ _ (c .before .area-height .ensures .1 .1) (c .area-width .ensures .1 .1) in omega arith
 
 returns : tie.Need-returns
 returns c =
-    ap₂ (λ h w. not (eqb (length (c .before .before .before .args .levels .now)) (h * w))) (c .before .area-height .ensures .0) (c .area-width .ensures .0)
+    ap₂ (λ h w. not (eqb (length (c .before .before .before .args .levels .now)) (h * w))) (c .before .area-height .ensures .0)
+    (c .area-width .ensures .0)
 
 pub levels-wrong-spec : {M : Type 1} → statement M
 levels-wrong-spec =
-    tie.close (tie.spec area-height-requires area-width-requires mul-result returns)
+    tie.close (tie.spec (λ c κs. search needs) (λ c κs. search needs) mul-result returns)

@@ -5,9 +5,6 @@ use mathlib.Core.Path.{sym, _∙_}
 use Rattle.run.proofs.records.record_bad.Statement.{statement}
 use Rattle.run.proofs.records.record_bad.Tie as tie
 
-record-foreign-requires : tie.Need-record-foreign-requires
-record-foreign-requires c κs = search needs
-
 returns : tie.Need-returns
 returns c = bad-foreign (c .before .before .args .run) (sym (c .before .record-foreign .ensures) ∙ c .if1 .taken)
 
@@ -18,7 +15,8 @@ returns-2 : tie.Need-returns-2
 returns-2 c =
     let record-foreign = c .before .before .before .record-foreign in
     let rows-due = c .before .rows-due in
-    bad-rows (c .before .before .before .before .args .run) (sym (record-foreign .ensures) ∙ c .before .before .if1 .left) (rows-due .result) (rows-due .ensures .0)
+    bad-rows (c .before .before .before .before .args .run) (sym (record-foreign .ensures) ∙ c .before .before .if1 .left)
+    (rows-due .result) (rows-due .ensures .0)
 
 pub record-bad-spec : {M : Type 1} → statement M
-record-bad-spec = tie.close (tie.spec record-foreign-requires returns rows-due-requires returns-2)
+record-bad-spec = tie.close (tie.spec (λ c κs. search needs) returns rows-due-requires returns-2)

@@ -6,22 +6,14 @@ use mathlib.Core.Path.{sym, _∙_}
 use Rattle.run.proofs.records.record_foreign.Statement.{statement}
 use Rattle.run.proofs.records.record_foreign.Tie as tie
 
-is-side-out-requires : tie.Need-is-side-out-requires
-is-side-out-requires c κs = search needs
-
 returns : tie.Need-returns
 returns c = foreign-width (c .before .before .args .run) (sym (c .before .is-side-out .ensures) ∙ c .if1 .taken)
-
-is-side-out-requires-2 : tie.Need-is-side-out-requires-2
-is-side-out-requires-2 c κs = search needs
 
 returns-2 : tie.Need-returns-2
 returns-2 c =
     let is-side-out = c .before .before .before .is-side-out in
-    foreign-height (c .before .before .before .before .args .run) (sym (is-side-out .ensures) ∙ c .before .before .if1 .left) (sym (c .before .is-side-out2 .ensures) ∙ c .if2 .taken)
-
-element-foreign-requires : tie.Need-element-foreign-requires
-element-foreign-requires c κs = search needs
+    foreign-height (c .before .before .before .before .args .run) (sym (is-side-out .ensures) ∙ c .before .before .if1 .left)
+    (sym (c .before .is-side-out2 .ensures) ∙ c .if2 .taken)
 
 returns-3 : tie.Need-returns-3
 returns-3 c =
@@ -29,7 +21,9 @@ returns-3 c =
     let if1 = c .before .before .before .before .before .if1 in
     let is-side-out2 = c .before .before .before .before .is-side-out2 in
     let if2 = c .before .before .before .if2 in
-    foreign-element (c .before .before .before .before .before .before .before .args .run) (sym (is-side-out .ensures) ∙ if1 .left) (sym (is-side-out2 .ensures) ∙ if2 .left) (sym (c .before .element-foreign .ensures) ∙ c .if3 .taken)
+    foreign-element (c .before .before .before .before .before .before .before .args .run)
+    (sym (is-side-out .ensures) ∙ if1 .left) (sym (is-side-out2 .ensures) ∙ if2 .left)
+    (sym (c .before .element-foreign .ensures) ∙ c .if3 .taken)
 
 cap-foreign-requires : tie.Need-cap-foreign-requires
 cap-foreign-requires c κs =
@@ -39,7 +33,10 @@ cap-foreign-requires c κs =
     let is-side-out2 = c .before .before .before .before .is-side-out2 in
     let if2 = c .before .before .before .if2 in (
       taken-side (args .run .side) (args .run .cells) (sym (c .before .element-foreign .ensures) ∙ c .if3 .left),
-      (side-in (args .run .width) (sym (is-side-out .ensures) ∙ if1 .left) .1, side-in (args .run .height) (sym (is-side-out2 .ensures) ∙ if2 .left) .1),
+      (
+        side-in (args .run .width) (sym (is-side-out .ensures) ∙ if1 .left) .1,
+        side-in (args .run .height) (sym (is-side-out2 .ensures) ∙ if2 .left) .1,
+      ),
     )
 
 returns-4 : tie.Need-returns-4
@@ -48,17 +45,11 @@ returns-4 c =
     let if1 = c .before .before .before .before .before .before .if1 in
     let is-side-out2 = c .before .before .before .before .before .is-side-out2 in
     let if2 = c .before .before .before .before .if2 in
-    foreign-cap (c .before .before .before .before .before .before .before .before .args .run) (sym (is-side-out .ensures) ∙ if1 .left) (sym (is-side-out2 .ensures) ∙ if2 .left) (sym (c .before .before .element-foreign .ensures) ∙ c .before .if3 .left) (c .cap-foreign .result) (c .cap-foreign .ensures)
+    foreign-cap (c .before .before .before .before .before .before .before .before .args .run)
+    (sym (is-side-out .ensures) ∙ if1 .left) (sym (is-side-out2 .ensures) ∙ if2 .left)
+    (sym (c .before .before .element-foreign .ensures) ∙ c .before .if3 .left) (c .cap-foreign .result) (c .cap-foreign .ensures)
 
 pub record-foreign-spec : {M : Type 1} → statement M
 record-foreign-spec =
-    tie.close
-    (tie.spec
-    is-side-out-requires
-    returns
-    is-side-out-requires-2
-    returns-2
-    element-foreign-requires
-    returns-3
-    cap-foreign-requires
-    returns-4)
+    tie.close (tie.spec (λ c κs. search needs) returns (λ c κs. search needs) returns-2 (λ c κs. search needs) returns-3
+    cap-foreign-requires returns-4)

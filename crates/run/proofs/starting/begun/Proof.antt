@@ -6,16 +6,13 @@ use mathlib.Core.Path.{refl, ap, _∙_}
 use Rattle.run.proofs.starting.begun.Statement.{statement}
 use Rattle.run.proofs.starting.begun.Tie as tie
 
-cells-of-requires : tie.Need-cells-of-requires
-cells-of-requires c κs = search needs
-
-flat-cells-requires : tie.Need-flat-cells-requires
-flat-cells-requires c κs = search needs
-
 returns : tie.Need-returns
 returns c =
-    let args = c .before .before .before .args in
-    (refl, begun-record (args .kind) (args .width) (args .height) (args .cap) (args .side) (args .bytes .now) _ (c .flat-cells .ensures ∙ ap flat (c .before .cells-of .ensures)))
+    let args = c .before .before .before .args in (
+      refl,
+      begun-record (args .kind) (args .width) (args .height) (args .cap) (args .side) (args .bytes .now) _
+          (c .flat-cells .ensures ∙ ap flat (c .before .cells-of .ensures)),
+    )
 
 pub begun-spec : {M : Type 1} → statement M
-begun-spec = tie.close (tie.spec cells-of-requires flat-cells-requires returns)
+begun-spec = tie.close (tie.spec (λ c κs. search needs) (λ c κs. search needs) returns)

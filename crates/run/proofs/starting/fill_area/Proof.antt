@@ -15,12 +15,6 @@ Inv-loop levels₀ width height margin sheet on off rows row₀ levels row =
 abbrev μ-loop : tie.MeasureT-loop
 μ-loop levels₀ width height margin sheet on off rows row₀ levels row = rows - row
 
-add-rows : tie.Need-add-rows Inv-loop μ-loop
-add-rows c = search needs
-
-add-rows-2 : tie.Need-add-rows-2 Inv-loop μ-loop
-add-rows-2 c = search needs
-
 loop-holds : tie.Need-loop-holds Inv-loop μ-loop
 loop-holds c = (omega arith, rows-none)
 
@@ -29,14 +23,14 @@ fill-row-requires c κs =
     let start = c .before .before .before .before .before in
     (canvas-after (start .pre .0) (c .before .before .loop .inv .1 .filled .size), (start .pre .1, omega arith))
 
-add-row : tie.Need-add-row Inv-loop μ-loop
-add-row c = search needs
-
 loop-less : tie.Need-loop-less Inv-loop μ-loop
 loop-less c = omega arith
 
 loop-again : tie.Need-loop-again Inv-loop μ-loop
-loop-again c = (omega arith, rows-turn (c .before .before .before .before .before .loop .inv .1) (c .before .before .fill-row .ensures))
+loop-again c = (
+  omega arith,
+  rows-turn (c .before .before .before .before .before .loop .inv .1) (c .before .before .fill-row .ensures),
+)
 
 same-length : tie.Need-same-length Inv-loop μ-loop
 same-length c = c .before .loop .inv .1 .filled .size
@@ -44,20 +38,10 @@ same-length c = c .before .loop .inv .1 .filled .size
 returns : tie.Need-returns Inv-loop μ-loop
 returns c =
     let start = c .before .before .before .before in
-    start-raster (start .args .on) (start .args .off) (start .args .sheet .now) (start .pre .0) (c .before .loop .inv .1) (omega arith)
+    start-raster (start .args .on) (start .args .off) (start .args .sheet .now) (start .pre .0) (c .before .loop .inv .1)
+    (omega arith)
 
 pub fill-area-spec : {M : Type 1} → statement M
 fill-area-spec =
-    tie.close
-    (tie.spec
-    Inv-loop
-    μ-loop
-    add-rows
-    add-rows-2
-    loop-holds
-    fill-row-requires
-    add-row
-    loop-less
-    loop-again
-    same-length
-    returns)
+    tie.close (tie.spec Inv-loop μ-loop (λ c. search needs) (λ c. search needs) loop-holds fill-row-requires
+    (λ c. search needs) loop-less loop-again same-length returns)

@@ -1,4 +1,5 @@
--- The loop's invariant: the levels of the first columns are filled. The pixel's byte is in the sheet, because the row's bytes are.
+-- The loop's invariant: the levels of the first columns are filled. The pixel's byte is in the sheet, because the row's bytes
+-- are.
 use lib.Dec.{eqb}
 use mathlib.Core.Bool.{cond}
 use Rattle.sheet.specs.Sheets.{pixel}
@@ -21,53 +22,20 @@ abbrev μ-loop : tie.MeasureT-loop
 loop-holds : tie.Need-loop-holds Inv-loop μ-loop
 loop-holds c = (search needs, patch-none _ _ _)
 
-pixel-at-requires : tie.Need-pixel-at-requires Inv-loop μ-loop
-pixel-at-requires c κs = search needs
-
-where-one-requires : tie.Need-where-one-requires Inv-loop μ-loop
-where-one-requires c κs = search needs
-
-add-levels : tie.Need-add-levels Inv-loop μ-loop
-add-levels c = search needs
-
-mul-levels : tie.Need-mul-levels Inv-loop μ-loop
-mul-levels c = search needs
-
-slice-write-levels : tie.Need-slice-write-levels Inv-loop μ-loop
-slice-write-levels c = search needs
-
-add-col : tie.Need-add-col Inv-loop μ-loop
-add-col c = search needs
-
-loop-less : tie.Need-loop-less Inv-loop μ-loop
-loop-less c = search needs
-
 loop-again : tie.Need-loop-again Inv-loop μ-loop
 loop-again c =
     let args = c .before .before .before .before .before .before .args in
-    let loop = c .before .before .before .loop in
-    (omega arith, patch-turn (loop .inv .1) (c .where-one .result) (omega arith) (c .where-one .ensures ∙ ap (λ p. cond (eqb p 1) (args .on) (args .off)) (c .before .pixel-at .ensures)))
-
-same-length : tie.Need-same-length Inv-loop μ-loop
-same-length c = search needs
+    let loop = c .before .before .before .loop in (
+      omega arith,
+      patch-turn (loop .inv .1) (c .where-one .result) (omega arith)
+          (c .where-one .ensures ∙ ap (λ p. cond (eqb p 1) (args .on) (args .off)) (c .before .pixel-at .ensures)),
+    )
 
 returns : tie.Need-returns Inv-loop μ-loop
 returns c = patch-all (c .before .loop .inv .1) (c .before .before .before .before .args .width) (omega arith)
 
 pub fill-pixels-spec : {M : Type 1} → statement M
 fill-pixels-spec =
-    tie.close
-    (tie.spec
-    Inv-loop
-    μ-loop
-    loop-holds
-    pixel-at-requires
-    where-one-requires
-    add-levels
-    mul-levels
-    slice-write-levels
-    add-col
-    loop-less
-    loop-again
-    same-length
+    tie.close (tie.spec Inv-loop μ-loop loop-holds (λ c κs. search needs) (λ c κs. search needs) (λ c. search needs)
+    (λ c. search needs) (λ c. search needs) (λ c. search needs) (λ c. search needs) loop-again (λ c. search needs)
     returns)

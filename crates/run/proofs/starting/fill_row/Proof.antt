@@ -1,16 +1,11 @@
--- Off the frame the whole row is off; else its three stretches follow one another. Every place is small, because the row is in the levels.
+-- Off the frame the whole row is off; else its three stretches follow one another. Every place is small, because the row is in
+-- the levels.
 use Rattle.run.proofs.PatchLaws.{patch-as, row-room}
 use Rattle.run.proofs.StartLaws.{row-bytes, row-above, row-below, row-parts}
 use borrow.Author.Needs.{needs}
 use native.Mathlib.Omega.{arith}
 use Rattle.run.proofs.starting.fill_row.Statement.{statement}
 use Rattle.run.proofs.starting.fill_row.Tie as tie
-
-add-side : tie.Need-add-side
-add-side c = search needs
-
-add-side-2 : tie.Need-add-side-2
-add-side-2 c = search needs
 
 mul-at : tie.Need-mul-at
 mul-at c =
@@ -22,31 +17,26 @@ fill-level-requires c κs =
     let start = c .before .before .before .before in
     let s = row-room (start .pre .0) (start .args .row) (start .pre .1 .1) in omega arith
 
-same-length : tie.Need-same-length
-same-length c = search needs
-
 returns : tie.Need-returns
 returns c =
     let args = c .before .before .before .before .before .before .before .args in
     let if1 = c .before .before .before .before .if1 in
-    patch-as (c .before .before .fill-level .ensures) _ (λ col _. row-above (args .width) (args .height) (args .margin) (args .sheet .now) (args .on) (args .off) (args .row) (if1 .taken) col)
-
-add-if2 : tie.Need-add-if2
-add-if2 c = search needs
+    patch-as (c .before .before .fill-level .ensures) _
+    (λ col _. row-above (args .width) (args .height) (args .margin) (args .sheet .now) (args .on) (args .off) (args .row)
+    (if1 .taken) col)
 
 fill-level-requires-2 : tie.Need-fill-level-requires-2
 fill-level-requires-2 c κs =
     let start = c .before .before .before .before .before in
     let s = row-room (start .pre .0) (start .args .row) (start .pre .1 .1) in omega arith
 
-same-length-2 : tie.Need-same-length-2
-same-length-2 c = search needs
-
 returns-2 : tie.Need-returns-2
 returns-2 c =
     let args = c .before .before .before .before .before .before .before .before .args in
     let if2 = c .before .before .before .before .if2 in
-    patch-as (c .before .before .fill-level2 .ensures) _ (λ col _. row-below (args .width) (args .height) (args .margin) (args .sheet .now) (args .on) (args .off) (args .row) (if2 .taken) col)
+    patch-as (c .before .before .fill-level2 .ensures) _
+    (λ col _. row-below (args .width) (args .height) (args .margin) (args .sheet .now) (args .on) (args .off) (args .row)
+    (if2 .taken) col)
 
 fill-level-requires-3 : tie.Need-fill-level-requires-3
 fill-level-requires-3 c κs =
@@ -66,8 +56,13 @@ fill-pixels-requires c κs =
     let if2 = c .before .before .before .before .before .if2 in
     let s = row-room (pre .0) (args .row) (pre .1 .1) in
     let w = pre .0 .wide in
-    let h = pre .0 .high in
-    (omega arith, (omega arith, (omega arith, rw (pre .1 .0) (row-bytes (args .width) (args .height) (args .margin) (args .row) (if1 .left) (if2 .left)))))
+    let h = pre .0 .high in (
+      omega arith,
+      (
+        omega arith,
+        (omega arith, rw (pre .1 .0) (row-bytes (args .width) (args .height) (args .margin) (args .row) (if1 .left) (if2 .left))),
+      ),
+    )
 
 add-fill-level : tie.Need-add-fill-level
 add-fill-level c =
@@ -84,9 +79,6 @@ fill-level-requires-4 c κs =
     let start = c .before .before .before .before .before .before .before .before .before .before .before .before .before in
     let s = row-room (start .pre .0) (start .args .row) (start .pre .1 .1) in omega arith
 
-same-length-3 : tie.Need-same-length-3
-same-length-3 c = search needs
-
 returns-3 : tie.Need-returns-3
 returns-3 c =
     let args = c .before .before .before .before .before .before .before .before .before .before .before .before .before .before .before .before .args in
@@ -94,27 +86,11 @@ returns-3 c =
     let if2 = c .before .before .before .before .before .before .before .before .before .before .before .before .if2 in
     let fill-level3 = c .before .before .before .before .before .before .before .before .before .before .fill-level3 in
     let fill-pixels = c .before .before .before .before .before .before .fill-pixels in
-    row-parts (args .width) (args .height) (args .margin) (args .sheet .now) (args .on) (args .off) (args .row) (if1 .left) (if2 .left) (fill-level3 .ensures) (fill-pixels .ensures) (c .before .before .fill-level4 .ensures)
+    row-parts (args .width) (args .height) (args .margin) (args .sheet .now) (args .on) (args .off) (args .row) (if1 .left)
+    (if2 .left) (fill-level3 .ensures) (fill-pixels .ensures) (c .before .before .fill-level4 .ensures)
 
 pub fill-row-spec : {M : Type 1} → statement M
 fill-row-spec =
-    tie.close
-    (tie.spec
-    add-side
-    add-side-2
-    mul-at
-    fill-level-requires
-    same-length
-    returns
-    add-if2
-    fill-level-requires-2
-    same-length-2
-    returns-2
-    fill-level-requires-3
-    add-fill-pixels
-    fill-pixels-requires
-    add-fill-level
-    add-fill-level-2
-    fill-level-requires-4
-    same-length-3
-    returns-3)
+    tie.close (tie.spec (λ c. search needs) (λ c. search needs) mul-at fill-level-requires (λ c. search needs) returns
+    (λ c. search needs) fill-level-requires-2 (λ c. search needs) returns-2 fill-level-requires-3 add-fill-pixels
+    fill-pixels-requires add-fill-level add-fill-level-2 fill-level-requires-4 (λ c. search needs) returns-3)

@@ -5,22 +5,14 @@ use borrow.Author.Needs.{needs}
 use Rattle.run.proofs.starting.start_erosion.Statement.{statement}
 use Rattle.run.proofs.starting.start_erosion.Tie as tie
 
-erosion-refusal-requires : tie.Need-erosion-refusal-requires
-erosion-refusal-requires c κs = search needs
-
-refused-requires : tie.Need-refused-requires
-refused-requires c κs = search needs
-
-same-length : tie.Need-same-length
-same-length c = search needs
-
 returns : tie.Need-returns
 returns c = start-refuses (c .before .if1 .taken) (c .before .before .erosion-refusal .ensures) (c .refused .ensures)
 
 fill-area-requires : tie.Need-fill-area-requires
 fill-area-requires c κs =
     let args = c .before .before .before .before .before .before .before .args in
-    let t = erosion-taken (args .width) (args .height) (args .sheet .now) (args .side) (args .bytes .now) (args .levels .now) (sym (c .before .before .erosion-refusal .ensures) ∙ c .before .if1 .left) in
+    let t = erosion-taken (args .width) (args .height) (args .sheet .now) (args .side) (args .bytes .now) (args .levels .now)
+    (sym (c .before .before .erosion-refusal .ensures) ∙ c .before .if1 .left) in
     let j = judged (args .width) (args .height) (args .sheet .now) (args .side) (args .bytes .now) (t .0) in
     (frame-canvas (j .wide .1) (j .high .1) (t .1), j .sheet-size)
 
@@ -29,12 +21,10 @@ begun-requires c κs =
     let args = c .before .before .before .before .before .before .before .before .before .before .args in
     let erosion-refusal = c .before .before .before .before .before .erosion-refusal in
     let if1 = c .before .before .before .before .if1 in
-    let t = erosion-taken (args .width) (args .height) (args .sheet .now) (args .side) (args .bytes .now) (args .levels .now) (sym (erosion-refusal .ensures) ∙ if1 .left) in
+    let t = erosion-taken (args .width) (args .height) (args .sheet .now) (args .side) (args .bytes .now) (args .levels .now)
+    (sym (erosion-refusal .ensures) ∙ if1 .left) in
     let j = judged (args .width) (args .height) (args .sheet .now) (args .side) (args .bytes .now) (t .0) in
     (j .element .side-is, j .element .size)
-
-same-length-2 : tie.Need-same-length-2
-same-length-2 c = search needs
 
 returns-2 : tie.Need-returns-2
 returns-2 c =
@@ -45,13 +35,5 @@ returns-2 c =
 
 pub start-erosion-spec : {M : Type 1} → statement M
 start-erosion-spec =
-    tie.close
-    (tie.spec
-    erosion-refusal-requires
-    refused-requires
-    same-length
-    returns
-    fill-area-requires
-    begun-requires
-    same-length-2
-    returns-2)
+    tie.close (tie.spec (λ c κs. search needs) (λ c κs. search needs) (λ c. search needs) returns fill-area-requires
+    begun-requires (λ c. search needs) returns-2)
