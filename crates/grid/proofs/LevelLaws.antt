@@ -1,13 +1,15 @@
 -- A level fixes its value; and what a level says of each size: the thresholding facts.
 -- All four levels come from two lemmas, over any property F of sizes that falls or grows.
-use mathlib.Core.Path.{_≡_, refl}
+use mathlib.Core.Path.{_≡_, refl, sym, ap, subst, _∙_}
 use mathlib.Core.Logic.{_↔_}
 use Prim.Native.Nat.{ℕ, zero, suc, _≤_, _<_}
+use native.Mathlib.Decide.{decLt}
 use native.Mathlib.Nat.{le-antisymm}
 use native.Mathlib.Omega.{arith}
-use Rattle.grid.specs.Points.{Point, origin}
+use Rattle.grid.specs.Points.{Point, origin, _⊕_}
 use Rattle.grid.specs.Sets.{PointSet, eroded, dilated, opened, closed}
 use Rattle.grid.specs.Levels.{IsLast, IsFirst, IsErosionLevel, IsOpeningLevel, IsDilationLevel, IsClosingLevel}
+use Rattle.grid.proofs.PointLaws.{⊕-origin}
 use Rattle.grid.proofs.SetLaws.{eroded-shrinks, dilated-grows, opened-shrinks, closed-grows}
 
 pub last-unique : {F : ℕ → Type 0} {m n : ℕ} → IsLast F m → IsLast F n → m ≡ n
@@ -41,6 +43,17 @@ first-iff {m = suc k} grows p j l = (p .below j l, λ q. grows k j (let z = q .1
 module _ (A K : PointSet) (x : Point) {m : ℕ} where
   pub erosion-iff : K origin → IsErosionLevel A K x m → (n : ℕ) → eroded A K n x ↔ (n < m)
   erosion-iff o p = last-iff (λ i j l. eroded-shrinks A K o i j l x) p
+
+  -- 0 exactly off A
+  pub erosion-zero : K origin → IsErosionLevel A K x m → (m ≡ 0) ↔ (¬ A x)
+  erosion-zero o p = (
+    (λ z h. let l = erosion-iff o p 0 .0 (λ b e. subst A (sym (ap (λ b. x ⊕ b) e ∙ ⊕-origin x)) h) in absurd (omega arith)),
+    (λ n. go (decLt 0 m) n),
+  )
+    where
+      go : Dec (0 < m) → ¬ A x → m ≡ 0
+      go (no l) n = omega arith
+      go (yes l) n = absurd (n (subst A (⊕-origin x) (erosion-iff o p 0 .1 l origin refl)))
 
   pub opening-iff : IsOpeningLevel A K x m → (n : ℕ) → opened A K n x ↔ (n < m)
   opening-iff p = last-iff (λ i j l. opened-shrinks A K i j l x) p

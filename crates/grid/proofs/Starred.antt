@@ -1,10 +1,10 @@
 -- The starred cases hold of the definitions, by one test that is computed over the whole table.
 -- A level is tested by two sizes alone: the one that it names is held and the next is not (or the one before, for dilation and
 -- closing), since the sets shrink or grow with the size.
-use mathlib.Core.Path.{_≡_, subst}
+use mathlib.Core.Path.{_≡_, refl, subst}
 use mathlib.Core.Logic.{inl, inr}
 use mathlib.Core.List.{List, [], _∷_}
-use Prim.Native.Nat.{ℕ, zero, suc, _≤_, _<_}
+use Prim.Native.Nat.{ℕ, zero, suc, _-_, _≤_, _<_}
 use native.Mathlib.Decide.{ℕ-discrete, decLe, decLt}
 use native.Mathlib.Omega.{arith}
 use lib.IntN.{pos}
@@ -14,8 +14,9 @@ use Rattle.grid.specs.Levels.{IsLast, IsFirst}
 use Rattle.grid.specs.Figures.{reach}
 use Rattle.grid.specs.Starred.{drawn, Question, erosionLevels, openingLevels, dilationLevels, closingLevels, erodedBy}
 use Rattle.grid.specs.Starred.{openedBy, IsPixel, IsAnswer, Case, figureOf, shapeOf, AllHold, table, hook, clipped}
-use Rattle.grid.specs.Starred.{ClippingMisses}
+use Rattle.grid.specs.Starred.{pair, pairReflected, PairReflects, ClippingMisses}
 use Rattle.grid.proofs.SetLaws.{eroded-shrinks, dilated-grows, opened-shrinks, closed-grows}
+use Rattle.grid.proofs.FigureLaws.{element-reflect}
 use Rattle.grid.proofs.Searches.{Yes, by-test, Decided, Searched, all-below, any-below, not-dec, both-dec, implies-dec}
 use Rattle.grid.proofs.Searches.{same-dec, origin-searched, dilate-searched, fold-searched, moved-searched, erode-decided}
 use Rattle.grid.proofs.Searches.{dilate-decided, eroded-decided, dilated-decided, opened-decided, closed-decided}
@@ -152,7 +153,10 @@ all-dec (c ∷ cases) = both-dec (case-dec c) (all-dec cases)
 
 -- what the tests compute with
 table-tested : AllTested table
-unfolding Yes all-dec AllTested case-dec CaseTested tested-dec Tested pixel-dec LastAt FirstAt last-at-dec first-at-dec all-below any-below not-dec both-dec implies-dec same-dec origin-searched dilate-searched fold-searched moved-searched erode-decided dilate-decided eroded-decided dilated-decided opened-decided closed-decided figure-decided figure-searched element-searched ℕ-discrete decLe decLt
+unfolding Yes all-dec AllTested case-dec CaseTested tested-dec Tested pixel-dec LastAt FirstAt last-at-dec first-at-dec
+    all-below any-below not-dec both-dec implies-dec same-dec origin-searched dilate-searched fold-searched moved-searched
+    erode-decided dilate-decided eroded-decided dilated-decided opened-decided closed-decided figure-decided figure-searched
+    element-searched ℕ-discrete decLe decLt
 table-tested = by-test (all-dec table) tt
 
 -- THE CLAIM: every starred case holds of the definitions
@@ -171,5 +175,20 @@ misses-dec =
     (not-dec (clipped-decided (dilate-decided (clipped-decided (dilate-decided A K)) K) (at (pos 1) (pos 0))))
 
 pub clipping-misses : ClippingMisses
-unfolding Yes misses-dec clipped-decided any-below not-dec both-dec same-dec origin-searched dilate-searched fold-searched moved-searched dilate-decided dilated-decided frame-decided figure-decided figure-searched element-searched ℕ-discrete decLt
+unfolding Yes misses-dec clipped-decided any-below not-dec both-dec same-dec origin-searched dilate-searched fold-searched
+    moved-searched dilate-decided dilated-decided frame-decided figure-decided figure-searched element-searched ℕ-discrete
+    decLt
 clipping-misses = by-test misses-dec tt
+
+-- case 3's drawing is case 2's read across the centre
+across-dec : Dec ((row : ℕ) → row < 3 → (col : ℕ) → col < 3 → drawn pairReflected row col ≡ drawn pair (2 - row) (2 - col))
+across-dec = all-below 3 (λ row. (col : ℕ) → col < 3 → drawn pairReflected row col ≡ drawn pair (2 - row) (2 - col))
+    (λ row. all-below 3 (λ col. drawn pairReflected row col ≡ drawn pair (2 - row) (2 - col))
+    (λ col. ℕ-discrete (drawn pairReflected row col) (drawn pair (2 - row) (2 - col))))
+
+drawn-across : (row : ℕ) → row < 3 → (col : ℕ) → col < 3 → drawn pairReflected row col ≡ drawn pair (2 - row) (2 - col)
+unfolding Yes across-dec all-below ℕ-discrete decLt
+drawn-across = by-test across-dec tt
+
+pub pair-reflects : PairReflects
+pair-reflects = element-reflect 3 refl (drawn pair) (drawn pairReflected) (λ row col a b. drawn-across row a col b)

@@ -8,7 +8,7 @@ use Prim.Native.Nat.{ℕ, _<_}
 use lib.IntN.{pos}
 use lib.ListN.{getD}
 use Rattle.grid.specs.Points.{Point, at}
-use Rattle.grid.specs.Sets.{PointSet, dilate, dilated, eroded, opened}
+use Rattle.grid.specs.Sets.{PointSet, reflect, dilate, dilated, eroded, opened, _≈_}
 use Rattle.grid.specs.Levels.{IsErosionLevel, IsOpeningLevel, IsDilationLevel, IsClosingLevel}
 use Rattle.grid.specs.Figures.{frame, figure, element}
 
@@ -145,6 +145,10 @@ table =
     case 1 1 (oneRow (1 ∷ [])) cross erosionLevels (oneRow (1 ∷ [])) ∷
     case 1 1 (oneRow (1 ∷ [])) cross (dilationLevels 1) (oneRow (1 ∷ [])) ∷
     []
+
+-- case 3's element is case 2's, reflected
+abbrev pub PairReflects : Type 0
+PairReflects = element 3 (drawn pairReflected) ≈ reflect (element 3 (drawn pair))
 
 -- Case 5's error: dilating by 2 one step at a time, each step clipped to the frame, misses a point that dilating by 2 holds
 abbrev pub clipped : ℕ → ℕ → PointSet → PointSet
