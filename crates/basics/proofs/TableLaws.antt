@@ -99,3 +99,10 @@ module _ {A : Type 0} (w h : ℕ) (f : ℕ → ℕ → A) where
   raster-is d l s e =
       table-is (λ k. f (k / w) (k % w)) (h * w) d l s
       (λ k b. ap (λ n. getD l n d) (sym (entry-of w k)) ∙ e (k / w) (k % w) (row-below w h k b) (column-below w h k b))
+
+pub raster-same : {A : Type 0} (w h : ℕ) (f g : ℕ → ℕ → A) → ((i j : ℕ) → i < h → j < w → f i j ≡ g i j)
+    → raster w h f ≡ raster w h g
+unfolding raster
+raster-same w h f g e =
+    table-same (λ k. f (k / w) (k % w)) (λ k. g (k / w) (k % w)) (h * w)
+    (λ k l. e (k / w) (k % w) (row-below w h k l) (column-below w h k l))

@@ -10,8 +10,8 @@ use mathlib.Core.List.{List}
 use lib.Dec.{ltb}
 use lib.ListN.{length}
 use borrow.Author.Tests.{lt-ltb, ltb-true}
-use Rattle.basics.proofs.TableLaws.{length-raster, getD-raster}
-use Rattle.grid.specs.Sets.{_⊆_, _≈_}
+use Rattle.basics.proofs.TableLaws.{length-raster, getD-raster, raster-same}
+use Rattle.grid.specs.Sets.{_≈_}
 use Rattle.grid.specs.Figures.{figure}
 use Rattle.grid.proofs.FigureLaws.{figure-same}
 use Rattle.sheet.specs.Sheets.{rowBytes, bit, pixel, foreground, packedByte, packed}
@@ -23,13 +23,6 @@ place-small width row a b = mul-le-mul (let l : row ≤ 4096 = omega arith in l)
 pub pixel-binary : (width : ℕ) (bytes : List ℕ) (row col : ℕ) → pixel width bytes row col ≤ 1
 unfolding pixel
 pixel-binary width bytes row col = omega arith
-
--- PADDING IS NEVER READ: sheets with the same pixels in the frame mean the same set
-pub padding-ignored : (width height : ℕ) (bytes bytes′ : List ℕ)
-    → ((row col : ℕ) → row < height → col < width → pixel width bytes row col ≡ pixel width bytes′ row col)
-    → foreground width height bytes ⊆ foreground width height bytes′
-padding-ignored width height bytes bytes′ same =
-    figure-same width height (pixel width bytes) (pixel width bytes′) (λ row col a b v. sym (same row col a b) ∙ v)
 
 -- the eight bits of a weighted sum
 sum-bit : (a b c d e f g h : ℕ) → a ≤ 1 → b ≤ 1 → c ≤ 1 → d ≤ 1 → e ≤ 1 → f ≤ 1 → g ≤ 1 → h ≤ 1
@@ -98,3 +91,23 @@ module _ (width height : ℕ) (pixels : ℕ → ℕ → ℕ) where
     figure-same width height pixels (pixel width (packed width height pixels))
         (λ row col a b v. pixel-packed binary row col a b ∙ v),
   )
+
+-- NOTHING BUT THE PIXELS OF THE FRAME IS IN A PACKED SHEET
+module _ (width : ℕ) (f g : ℕ → ℕ) (same : (col : ℕ) → col < width → f col ≡ g col) where
+  bit-same : (col : ℕ) → cond (ltb col width) (f col) 0 ≡ cond (ltb col width) (g col) 0
+  bit-same col = go (ltb col width) refl
+    where
+      go : (t : Bool) → ltb col width ≡ t → cond t (f col) 0 ≡ cond t (g col) 0
+      go true e = same col (ltb-true col width e)
+      go false e = refl
+
+  byte-same : (k : ℕ) → packedByte width f k ≡ packedByte width g k
+  unfolding packedByte
+  byte-same k = simp bit-same
+
+pub packed-same : (width height : ℕ) (f g : ℕ → ℕ → ℕ) → ((row col : ℕ) → row < height → col < width → f row col ≡ g row col)
+    → packed width height f ≡ packed width height g
+unfolding packed
+packed-same width height f g same =
+    raster-same (rowBytes width) height (λ row k. packedByte width (f row) k) (λ row k. packedByte width (g row) k)
+    (λ row k a b. byte-same width (f row) (g row) (λ col l. same row col a l) k)
