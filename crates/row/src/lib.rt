@@ -6,6 +6,9 @@ ghost use lib.ListN.{length, getD, set};
 ghost use Rattle.row.specs.RowRule.{more, cellNumber, within, place, least, rowRule};
 ghost use Rattle.row.specs.Passes.{Pass, columnAt, firstOther, cellBack, step, Lowest, ownColumns};
 
+// "Nothing found yet".
+pub const NONE: u16 = 65535;
+
 fn lesser(a: u16, b: u16) -> u16
     ensures { λ r. ⌜ r ≡ min a b ⌝ }
 {

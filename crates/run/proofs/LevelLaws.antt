@@ -17,6 +17,13 @@ module _ (n a b : ℕ) where
   pub where-other : n ≢ 1 → b ≡ cond (eqb n 1) a b
   where-other m = rw (ne-eqb n 1 m)
 
+module _ (t : Bool) (a b : ℕ) where
+  pub where-true : t ≡ true → a ≡ cond t a b
+  where-true e = rw e
+
+  pub where-false : t ≡ false → b ≡ cond t a b
+  where-false e = rw e
+
 module _ (limit level : ℕ) where
   pub limited-kept : level ≤ limit → level ≡ limitedTo limit level
   unfolding limitedTo

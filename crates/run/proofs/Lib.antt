@@ -15,7 +15,6 @@ pub mod PictureAnswers
 -- the demands
 pub mod Started
 pub mod StartLevels
-pub mod LevelsExist
 pub mod Demand2
 pub mod Demand3
 pub mod StarredRuns

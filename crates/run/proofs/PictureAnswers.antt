@@ -10,7 +10,7 @@ use mathlib.Core.Bool.{Bool, true, false, not, cond, _&&_, _||_}
 use mathlib.Core.List.{List, [], _∷_}
 use lib.Dec.{eqb, leb, ltb}
 use lib.ListN.{length}
-use borrow.Author.Tests.{lt-ltb, le-ltb, eq-eqb, ne-eqb, eqb-true, not-false}
+use borrow.Author.Tests.{lt-ltb, le-ltb, eq-eqb, ne-eqb, eqb-true, ltb-false, not-false}
 use Rattle.basics.specs.Refusals.{Refusal, first}
 use Rattle.basics.specs.Tables.{raster}
 use Rattle.basics.proofs.RefusalLaws.{rule-unique}
@@ -20,7 +20,7 @@ use Rattle.run.specs.declared.Record.{Record}
 use Rattle.run.specs.Records.{isErosion, margin, due, recordBad}
 use Rattle.run.specs.Continuing.{levelsWrong, isDone}
 use Rattle.run.specs.Pictures.{collectedLevel, collected, collectRefusals, Collects, isHeldAt, thresholded, sizeLimit}
-use Rattle.run.specs.Pictures.{thresholdRefusals, Thresholds}
+use Rattle.run.specs.Pictures.{pictureRefusals, thresholdRefusals, Thresholds}
 use Rattle.run.specs.Patches.{Canvas, levelIn, limitedTo, heldBetween}
 use Rattle.run.proofs.RecordLaws.{Sound, sound, not-bad}
 
@@ -87,51 +87,63 @@ module _ {r : Record} (s : Sound r) where
       rw q (ap (λ f. packed (r .width) (r .height) f)
       (fun-ext (λ row. fun-ext (λ col. held-level n l low high a b (levelIn (r .width) (margin r) levels row col)))))
 
--- refusals 11 and 13, which both judge last
-module _ (r : Record) (out : List ℕ) (room : ℕ) where
-  abbrev last : List Refusal
-  last = (11, not (eqb (length out) room)) ∷ (13, not (isDone r)) ∷ []
+-- the judge of both: each answer from the tests that led to it
+module _ (r : Record) (levels : List ℕ) (n room wanted : ℕ) where
+  abbrev judged : ℕ
+  judged = first (pictureRefusals r levels n room wanted)
 
-  pub room-wrong : length out ≢ room → first last ≡ 11
-  room-wrong n = rw (ne-eqb (length out) room n)
+  pub refuse-size : sizeLimit r < n → 8 ≡ judged
+  refuse-size l = rw (lt-ltb (sizeLimit r) n l)
 
-  pub rows-wanting : length out ≡ room → r .rows ≢ due r → first last ≡ 13
-  rows-wanting e n = rw (eq-eqb (length out) room e, ne-eqb (r .rows) (due r) n)
+  module _ (l : n ≤ sizeLimit r) where
+    pub refuse-levels : levelsWrong r levels ≡ true → 10 ≡ judged
+    refuse-levels b = rw (le-ltb (sizeLimit r) n l, b)
 
-  pub nothing-wrong : length out ≡ room → r .rows ≡ due r → first last ≡ 0
-  nothing-wrong e d = rw (eq-eqb (length out) room e, eq-eqb (r .rows) (due r) d)
+    module _ (b : levelsWrong r levels ≡ false) where
+      pub refuse-room : room ≢ wanted → 11 ≡ judged
+      refuse-room e = rw (le-ltb (sizeLimit r) n l, b, ne-eqb room wanted e)
+
+      module _ (e : room ≡ wanted) where
+        pub refuse-rows : r .rows ≢ due r → 13 ≡ judged
+        refuse-rows d = rw (le-ltb (sizeLimit r) n l, b, eq-eqb room wanted e, ne-eqb (r .rows) (due r) d)
+
+        pub accept-picture : r .rows ≡ due r → 0 ≡ judged
+        accept-picture d = rw (le-ltb (sizeLimit r) n l, b, eq-eqb room wanted e, eq-eqb (r .rows) (due r) d)
+
+  -- what an accepted picture may rely on
+  pub picture-taken : judged ≡ 0 → (n ≤ sizeLimit r) × (levelsWrong r levels ≡ false) × (room ≡ wanted)
+  picture-taken z = go (ltb (sizeLimit r) n) (levelsWrong r levels) (eqb room wanted) refl refl refl z
+    where
+      go : (a b c : Bool) → ltb (sizeLimit r) n ≡ a → levelsWrong r levels ≡ b → eqb room wanted ≡ c
+          → first ((8, a) ∷ (10, b) ∷ (11, not c) ∷ (13, not (isDone r)) ∷ []) ≡ 0
+          → (n ≤ sizeLimit r) × (levelsWrong r levels ≡ false) × (room ≡ wanted)
+      go false false true p q e z = (ltb-false (sizeLimit r) n p, q, eqb-true room wanted e)
+      go false false false p q e z = absurd (omega arith)
+      go false true c p q e z = absurd (omega arith)
+      go true b c p q e z = absurd (omega arith)
+
+-- of a sound record, the calls' own refusals are the judge's; collecting asks for the size 0, which every run takes
+module _ (r : Record) (levels out : List ℕ) (a : recordBad r ≡ false) where
+  pub collect-judged : {number : ℕ} → number ≡ first (pictureRefusals r levels 0 (length out) (r .height * r .width))
+      → number ≡ first (collectRefusals r levels out)
+  collect-judged e = e ∙ rw (a, le-ltb (sizeLimit r) 0 (let h : 0 ≤ sizeLimit r = omega arith in h))
+
+  pub threshold-judged : (n : ℕ) {number : ℕ}
+      → number ≡ first (pictureRefusals r levels n (length out) (r .height * rowBytes (r .width)))
+      → number ≡ first (thresholdRefusals r levels n out)
+  threshold-judged n e = e ∙ rw a
 
 module _ (r : Record) (levels out : List ℕ) where
-  pub collect-record : recordBad r ≡ true → first (collectRefusals r levels out) ≡ 1
+  pub collect-record : recordBad r ≡ true → 1 ≡ first (collectRefusals r levels out)
   collect-record a = rw a
-
-  module _ (a : recordBad r ≡ false) where
-    pub collect-levels : levelsWrong r levels ≡ true → first (collectRefusals r levels out) ≡ 10
-    collect-levels b = rw (a, b)
-
-    pub collect-last : levelsWrong r levels ≡ false → {number : ℕ} → first (last r out (r .height * r .width)) ≡ number
-        → first (collectRefusals r levels out) ≡ number
-    collect-last b e = rw (a, b) e
 
   pub collect-unique : (m n : ℕ) (x y : List ℕ) → Collects r levels out m x → Collects r levels out n y → (m ≡ n) × (x ≡ y)
   collect-unique = rule-unique
 
-module _ (r : Record) (levels : List ℕ) (n : ℕ) (out : List ℕ) where
-  pub threshold-record : recordBad r ≡ true → first (thresholdRefusals r levels n out) ≡ 1
-  threshold-record a = rw a
+  module _ (n : ℕ) where
+    pub threshold-record : recordBad r ≡ true → 1 ≡ first (thresholdRefusals r levels n out)
+    threshold-record a = rw a
 
-  module _ (a : recordBad r ≡ false) where
-    pub threshold-size : sizeLimit r < n → first (thresholdRefusals r levels n out) ≡ 8
-    threshold-size l = rw (a, lt-ltb (sizeLimit r) n l)
-
-    module _ (l : n ≤ sizeLimit r) where
-      pub threshold-levels : levelsWrong r levels ≡ true → first (thresholdRefusals r levels n out) ≡ 10
-      threshold-levels b = rw (a, le-ltb (sizeLimit r) n l, b)
-
-      pub threshold-last : levelsWrong r levels ≡ false → {number : ℕ}
-          → first (last r out (r .height * rowBytes (r .width))) ≡ number → first (thresholdRefusals r levels n out) ≡ number
-      threshold-last b e = rw (a, le-ltb (sizeLimit r) n l, b) e
-
-  pub threshold-unique : (k m : ℕ) (x y : List ℕ) → Thresholds r levels n out k x → Thresholds r levels n out m y
-      → (k ≡ m) × (x ≡ y)
-  threshold-unique = rule-unique
+    pub threshold-unique : (k m : ℕ) (x y : List ℕ) → Thresholds r levels n out k x → Thresholds r levels n out m y
+        → (k ≡ m) × (x ≡ y)
+    threshold-unique = rule-unique

@@ -11,6 +11,7 @@ use lib.Dec.{eqb, ltb}
 use lib.ListN.{length, getD, drop, drop-of-length-le}
 use lib.Seq.{drop-cons}
 use borrow.Author.Tests.{lt-ltb, le-ltb, le-leb, lt-leb, eq-eqb, ne-eqb, eqb-true, eqb-false, ltb-false, not-false}
+use Rattle.basics.specs.Limits.{longestSide, highestCap}
 use Rattle.basics.proofs.BoundLaws.{neither}
 use Rattle.basics.specs.Bounds.{anyAbove}
 use Rattle.grid.specs.Figures.{reach}
@@ -20,7 +21,7 @@ use Rattle.element.proofs.ElementLaws.{side-bounds}
 use Rattle.sheet.specs.Sheets.{isSideOut}
 use Rattle.sheet.proofs.FrameLaws.{side-in}
 use Rattle.run.specs.declared.Record.{Record}
-use Rattle.run.specs.Records.{marginOf, margin, areaWidth, areaHeight, due, outside, anyOutside, elementForeign, capForeign}
+use Rattle.run.specs.Records.{marginOf, margin, areaWidth, areaHeight, due, outside, anyOutside, elementForeign, capForeign, isErosion, dilationKind}
 use Rattle.run.specs.Records.{foreign, recordBad}
 
 -- places of the seven
@@ -105,37 +106,33 @@ margin-small cap side e l = mul-le-mul l (let b = side-bounds side e in let h : 
 
 -- the answers on a kind and a cap
 module _ (r : Record) where
-  pub cap-erosion : r .kind ≡ 1 → not (eqb (r .cap) 0) ≡ capForeign r
+  pub cap-erosion : isErosion r ≡ true → not (eqb (r .cap) 0) ≡ capForeign r
   unfolding capForeign
-  cap-erosion e = rw (eq-eqb (r .kind) 1 e)
+  cap-erosion e = rw e
 
-  module _ (n : r .kind ≢ 1) where
-    pub cap-kind : r .kind ≢ 2 → true ≡ capForeign r
+  module _ (n : isErosion r ≡ false) where
+    pub cap-kind : r .kind ≢ dilationKind → true ≡ capForeign r
     unfolding capForeign
-    cap-kind m = rw (ne-eqb (r .kind) 1 n, ne-eqb (r .kind) 2 m)
+    cap-kind m = rw (n, ne-eqb (r .kind) dilationKind m)
 
-    module _ (e : r .kind ≡ 2) where
-      pub cap-large : 2047 < r .cap → true ≡ capForeign r
+    module _ (e : r .kind ≡ dilationKind) where
+      pub cap-large : highestCap < r .cap → true ≡ capForeign r
       unfolding capForeign
-      cap-large l = rw (ne-eqb (r .kind) 1 n, eq-eqb (r .kind) 2 e, lt-ltb 2047 (r .cap) l)
+      cap-large l = rw (n, eq-eqb (r .kind) dilationKind e, lt-ltb highestCap (r .cap) l)
 
-      module _ (l : r .cap ≤ 2047) (m : ℕ) (q : m ≡ margin r) where
-        pub cap-width : 4096 < r .width + (m + m) → true ≡ capForeign r
+      module _ (l : r .cap ≤ highestCap) (m : ℕ) (q : m ≡ margin r) where
+        pub cap-width : longestSide < r .width + (m + m) → true ≡ capForeign r
         unfolding capForeign
-        cap-width w = rw (
-          ne-eqb (r .kind) 1 n,
-          eq-eqb (r .kind) 2 e,
-          le-ltb 2047 (r .cap) l,
-          lt-ltb 4096 (areaWidth r) (rw q at w),
-        )
+        cap-width w =
+            rw (n, eq-eqb (r .kind) dilationKind e, le-ltb highestCap (r .cap) l, lt-ltb longestSide (areaWidth r) (rw q at w))
 
-        pub cap-height : r .width + (m + m) ≤ 4096 → ltb 4096 (r .height + (m + m)) ≡ capForeign r
+        pub cap-height : r .width + (m + m) ≤ longestSide → ltb longestSide (r .height + (m + m)) ≡ capForeign r
         unfolding capForeign
         cap-height w = rw (
-          ne-eqb (r .kind) 1 n,
-          eq-eqb (r .kind) 2 e,
-          le-ltb 2047 (r .cap) l,
-          le-ltb 4096 (areaWidth r) (rw q at w),
+          n,
+          eq-eqb (r .kind) dilationKind e,
+          le-ltb highestCap (r .cap) l,
+          le-ltb longestSide (areaWidth r) (rw q at w),
           q,
         )
 

@@ -5,6 +5,7 @@ use mathlib.Core.Bool.{Bool, false, not}
 use mathlib.Core.List.{List, [], _∷_}
 use lib.Dec.{eqb, ltb}
 use lib.ListN.{length}
+use Rattle.basics.specs.Limits.{mostRows}
 use Rattle.basics.specs.Refusals.{Refusal, Answers}
 use Rattle.scan.specs.Scan.{scanRows}
 use Rattle.run.specs.declared.Record.{Record}
@@ -14,7 +15,7 @@ abbrev pub levelsWrong : Record → List ℕ → Bool
 levelsWrong r levels = not (eqb (length levels) (areaHeight r * areaWidth r))
 
 abbrev pub continueRefusals : Record → List ℕ → ℕ → List Refusal
-continueRefusals r levels allowance = (1, recordBad r) ∷ (10, levelsWrong r levels) ∷ (12, ltb 8192 allowance) ∷ []
+continueRefusals r levels allowance = (1, recordBad r) ∷ (10, levelsWrong r levels) ∷ (12, ltb mostRows allowance) ∷ []
 
 -- the allowance or what is due, the lesser
 abbrev pub worked : Record → ℕ → ℕ

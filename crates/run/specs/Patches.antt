@@ -5,6 +5,7 @@ use mathlib.Core.Bool.{cond, _&&_, _||_}
 use mathlib.Core.List.{List}
 use lib.Dec.{eqb, leb, ltb}
 use lib.ListN.{length, getD}
+use Rattle.basics.specs.Limits.{longestSide}
 use Rattle.row.specs.RowRule.{none}
 use Rattle.run.specs.Records.{canvasSide}
 
@@ -17,8 +18,8 @@ pub record Patch (at n : ℕ) (f : ℕ → ℕ) (buffer after : List ℕ) : Type
 
 -- Levels for all of the area that a margin makes of a frame, its sides in their limits.
 pub record Canvas (width height margin : ℕ) (levels : List ℕ) : Type 0 where
-  pub wide : canvasSide width margin ≤ 4096
-  pub high : canvasSide height margin ≤ 4096
+  pub wide : canvasSide width margin ≤ longestSide
+  pub high : canvasSide height margin ≤ longestSide
   pub room : length levels ≡ canvasSide height margin * canvasSide width margin
 
 -- the level at a row and a column of the frame

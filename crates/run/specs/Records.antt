@@ -4,6 +4,7 @@ use mathlib.Core.Bool.{Bool, false, not, cond, _&&_, _||_}
 use mathlib.Core.List.{List, [], _∷_}
 use lib.Dec.{eqb, ltb}
 use lib.ListN.{getD, replicate}
+use Rattle.basics.specs.Limits.{longestSide, highestCap}
 use Rattle.basics.specs.Bounds.{anyAbove}
 use Rattle.grid.specs.Figures.{reach}
 use Rattle.element.specs.Elements.{isSide, countSet}
@@ -13,9 +14,15 @@ use Rattle.row.specs.RowRule.{Area, none}
 use Rattle.scan.specs.Scan.{area}
 use Rattle.run.specs.declared.Record.{Record}
 
--- kind 1 is an erosion, kind 2 a dilation
+-- the kinds, as a record has them
+abbrev pub erosionKind : ℕ
+erosionKind = 1
+
+abbrev pub dilationKind : ℕ
+dilationKind = 2
+
 abbrev pub isErosion : Record → Bool
-isErosion r = eqb (r .kind) 1
+isErosion r = eqb (r .kind) erosionKind
 
 -- the margin of the canvas; the cap of an erosion is 0, so its area is the frame itself
 abbrev pub marginOf : ℕ → ℕ → ℕ
@@ -62,7 +69,7 @@ elementForeign side cells = not (isSide side) || anyAbove 1 cells || anyOutside 
 
 unfoldable pub capForeign : Record → Bool
 capForeign r = cond (isErosion r) (not (eqb (r .cap) 0))
-    (not (eqb (r .kind) 2) || ltb 2047 (r .cap) || ltb 4096 (areaWidth r) || ltb 4096 (areaHeight r))
+    (not (eqb (r .kind) dilationKind) || ltb highestCap (r .cap) || ltb longestSide (areaWidth r) || ltb longestSide (areaHeight r))
 
 unfoldable pub foreign : Record → Bool
 foreign r = isSideOut (r .width) || isSideOut (r .height) || elementForeign (r .side) (r .cells) || capForeign r

@@ -11,7 +11,7 @@ use Rattle.sheet.specs.Sheets.{packed}
 use Rattle.row.specs.RowRule.{none}
 use Rattle.scan.specs.Scan.{scanRows}
 use Rattle.run.specs.declared.Record.{Record}
-use Rattle.run.specs.Records.{areaOf, margin, due}
+use Rattle.run.specs.Records.{areaOf, margin, due, erosionKind, dilationKind}
 use Rattle.run.specs.Starting.{startRecord, startLevels, erosionRefusals, dilationRefusals}
 use Rattle.run.specs.Continuing.{withRows}
 use Rattle.run.specs.Pictures.{collected, collectRefusals, thresholded, thresholdRefusals}
@@ -32,10 +32,10 @@ pictureOf c = packed (c .width) (c .height) (drawn (c .expected))
 
 -- a case's record and start levels: an erosion, or a dilation with its cap
 abbrev pub erosionOf : Case → Record
-erosionOf c = startRecord 1 (c .width) (c .height) 0 3 (bytesOf c)
+erosionOf c = startRecord erosionKind (c .width) (c .height) 0 3 (bytesOf c)
 
 abbrev pub dilationOf : Case → ℕ → Record
-dilationOf c R = startRecord 2 (c .width) (c .height) R 3 (bytesOf c)
+dilationOf c R = startRecord dilationKind (c .width) (c .height) R 3 (bytesOf c)
 
 abbrev pub begun : Case → Record → ℕ → ℕ → List ℕ
 begun c r on off = startLevels (c .width) (c .height) (margin r) (sheetOf c) on off

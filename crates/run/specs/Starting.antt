@@ -5,6 +5,7 @@ use mathlib.Core.Bool.{Bool, not, cond, _&&_, _||_}
 use mathlib.Core.List.{List, [], _∷_, _++_}
 use lib.Dec.{eqb, leb, ltb}
 use lib.ListN.{length}
+use Rattle.basics.specs.Limits.{longestSide, highestCap}
 use Rattle.basics.specs.Refusals.{Refusal, Answers}
 use Rattle.basics.specs.Tables.{raster}
 use Rattle.element.specs.Elements.{elementRefusals}
@@ -12,7 +13,7 @@ use Rattle.element.specs.Cells.{centred, flat}
 use Rattle.sheet.specs.Sheets.{pixel, sheetRefusals}
 use Rattle.row.specs.RowRule.{none}
 use Rattle.run.specs.declared.Record.{Record}
-use Rattle.run.specs.Records.{marginOf, canvasSide, noRecord}
+use Rattle.run.specs.Records.{marginOf, canvasSide, noRecord, erosionKind, dilationKind}
 
 abbrev pub startRecord : ℕ → ℕ → ℕ → ℕ → ℕ → List ℕ → Record
 startRecord kind width height cap side bytes =
@@ -38,12 +39,12 @@ erosionRefusals width height sheet side bytes levels =
 abbrev pub StartsErosion : ℕ → ℕ → List ℕ → ℕ → List ℕ → List ℕ → ℕ → Record × List ℕ → Type 0
 StartsErosion width height sheet side bytes levels =
     Answers (erosionRefusals width height sheet side bytes levels) (noRecord, levels)
-    (λ after. after ≡ (startRecord 1 width height 0 side bytes, startLevels width height 0 sheet none 0))
+    (λ after. after ≡ (startRecord erosionKind width height 0 side bytes, startLevels width height 0 sheet none 0))
 
 -- the canvas of a cap: a side above 4,096, and its size
 abbrev pub canvasWrong : ℕ → ℕ → ℕ → ℕ → Bool
-canvasWrong width height cap side = ltb 4096 (canvasSide width (marginOf cap side)) ||
-    ltb 4096 (canvasSide height (marginOf cap side))
+canvasWrong width height cap side = ltb longestSide (canvasSide width (marginOf cap side)) ||
+    ltb longestSide (canvasSide height (marginOf cap side))
 
 abbrev pub canvasSize : ℕ → ℕ → ℕ → ℕ → ℕ
 canvasSize width height cap side = canvasSide height (marginOf cap side) * canvasSide width (marginOf cap side)
@@ -57,10 +58,10 @@ canvasRefusals width height cap side count = (9, canvasWrong width height cap si
 abbrev pub dilationRefusals : ℕ → ℕ → List ℕ → ℕ → List ℕ → ℕ → List ℕ → List Refusal
 dilationRefusals width height sheet side bytes cap levels =
     sheetRefusals width height sheet ++
-    (elementRefusals side bytes ++ (8, ltb 2047 cap) ∷ canvasRefusals width height cap side (length levels))
+    (elementRefusals side bytes ++ (8, ltb highestCap cap) ∷ canvasRefusals width height cap side (length levels))
 
 -- 1 on A and 65,535 elsewhere on the canvas
 abbrev pub StartsDilation : ℕ → ℕ → List ℕ → ℕ → List ℕ → ℕ → List ℕ → ℕ → Record × List ℕ → Type 0
 StartsDilation width height sheet side bytes cap levels =
     Answers (dilationRefusals width height sheet side bytes cap levels) (noRecord, levels)
-    (λ after. after ≡ (startRecord 2 width height cap side bytes, startLevels width height (marginOf cap side) sheet 1 none))
+    (λ after. after ≡ (startRecord dilationKind width height cap side bytes, startLevels width height (marginOf cap side) sheet 1 none))

@@ -1,13 +1,14 @@
 // Continuing a run by an allowance of rows.
 use super::Record;
+use super::kinds;
 use super::records;
 ghost use mathlib.Core.Path.{_≡_};
 ghost use mathlib.Core.Bool.{false};
-ghost use Prim.Native.Nat.{_+_, _*_, _≤_, min};
+ghost use Prim.Native.Nat.{_+_, _*_, _≤_};
 ghost use lib.ListN.{length};
 ghost use Rattle.basics.specs.Refusals.{first};
 ghost use Rattle.scan.specs.Scan.{scanRows};
-ghost use Rattle.run.specs.Records.{areaWidth, areaHeight, due, beyondOf, cellsOf, areaOf, foreign, noRecord};
+ghost use Rattle.run.specs.Records.{areaWidth, areaHeight, due, areaOf, foreign, noRecord};
 ghost use Rattle.run.specs.Continuing.{continueRefusals, withRows, Continues};
 
 // What a continue answers: the refusal number, 0 where it is accepted, the new record, and whether all rows are done.
@@ -28,34 +29,6 @@ fn refused(number: u32) -> Continued
     }
 }
 
-// The cells that lead to the partners: the element's for an erosion, turned about for a dilation.
-fn scan_cells(run: Record) -> [[u8; 7]; 7]
-    ensures { λ r. ⌜ r ≡ cellsOf run ⌝ }
-{
-    let flat = run.cells;
-    let cells = element::rows_of(flat);
-    if run.kind == 1 {
-        return cells;
-    }
-    element::turned_cells(cells)
-}
-
-// What a partner beyond the area reads.
-fn beyond_of(run: Record) -> u16
-    ensures { λ r. ⌜ r ≡ beyondOf run ⌝ }
-{
-    if run.kind != 1 {
-        return 65535;
-    }
-    0
-}
-
-fn lesser(a: usize, b: usize) -> usize
-    ensures { λ r. ⌜ r ≡ min a b ⌝ }
-{
-    if a < b { a } else { b }
-}
-
 // Refusals 1, 10 and 12 of a continue, or 0.
 pub fn continue_refusal(run: Record, levels: &[u16], allowance: usize) -> u32
     ensures { λ r. ⌜ r ≡ first (continueRefusals run (now (levels .entry)) allowance) ⌝ }
@@ -66,7 +39,7 @@ pub fn continue_refusal(run: Record, levels: &[u16], allowance: usize) -> u32
     if records::levels_wrong(run, levels) {
         return 10;
     }
-    if 8192 < allowance {
+    if basics::MOST_ROWS < allowance {
         return 12;
     }
     0
@@ -80,8 +53,8 @@ fn work_rows(run: Record, levels: &mut [u16], count: usize)
 {
     let width = records::area_width(run);
     let height = records::area_height(run);
-    let cells = scan_cells(run);
-    let beyond = beyond_of(run);
+    let cells = kinds::scan_cells(run);
+    let beyond = kinds::beyond_of(run);
     let reach = (run.side - 1) / 2;
     scan::scan_rows(levels, width, height, run.rows, count, reach, cells, beyond);
 }
@@ -112,7 +85,7 @@ pub fn continue_run(run: Record, levels: &mut [u16], allowance: usize) -> Contin
     }
     let rows = run.rows;
     let due = records::rows_due(run);
-    let count = lesser(allowance, due - rows);
+    let count = scan::lesser(allowance, due - rows);
     work_rows(run, levels, count);
     let next = with_rows(run, rows + count);
     Continued {

@@ -1,5 +1,6 @@
 // Runs: starting, continuing, collecting and thresholding erosions and dilations.
 pub mod continuing;
+pub mod kinds;
 pub mod pictures;
 pub mod records;
 pub mod starting;

@@ -1,15 +1,18 @@
 // Pictures of a finished run: its levels collected, and the sheet that it holds at a size.
 use super::Record;
+use super::kinds;
 use super::records;
 ghost use mathlib.Core.Path.{_≡_};
-ghost use mathlib.Core.Bool.{cond};
+ghost use mathlib.Core.Bool.{false};
 ghost use Prim.Native.Nat.{_+_, _*_, _%_, _≤_};
 ghost use lib.ListN.{length, getD};
+ghost use Rattle.basics.specs.Limits.{longestSide};
+ghost use Rattle.basics.specs.Refusals.{first};
 ghost use Rattle.basics.specs.Tables.{raster};
 ghost use Rattle.sheet.specs.Sheets.{rowBytes, packedByte, packed};
-ghost use Rattle.run.specs.Records.{isErosion};
+ghost use Rattle.run.specs.Records.{recordBad};
 ghost use Rattle.run.specs.Patches.{Patch, Canvas, levelIn, limitedTo, heldBetween, weight};
-ghost use Rattle.run.specs.Pictures.{sizeLimit, Collects, Thresholds};
+ghost use Rattle.run.specs.Pictures.{pictureRefusals, Collects, Thresholds};
 
 // The level, or 0 where it is above the limit.
 fn limited(level: u16, limit: u16) -> u16
@@ -63,15 +66,24 @@ fn copy_frame(
     }
 }
 
-// The highest level that is collected as it is: any of an erosion, R + 1 of a dilation.
-fn collected_limit(run: Record) -> u16
-    requires { ⌜ run .cap ≤ 2047 ⌝ }
-    ensures { λ r. ⌜ r ≡ cond (isErosion run) 65535 (run .cap + 1) ⌝ }
+// Refusals 8, 10, 11 and 13 of a picture at a size, of a sound record and with `room` entries lent of `wanted`, or 0.
+fn picture_refusal(run: Record, levels: &[u16], size: usize, room: usize, wanted: usize) -> u32
+    requires { ⌜ recordBad run ≡ false ⌝ }
+    ensures { λ r. ⌜ r ≡ first (pictureRefusals run (now (levels .entry)) size room wanted) ⌝ }
 {
-    if run.kind == 1 {
-        return 65535;
+    if kinds::size_limit(run) < size {
+        return 8;
     }
-    run.cap as u16 + 1
+    if records::levels_wrong(run, levels) {
+        return 10;
+    }
+    if room != wanted {
+        return 11;
+    }
+    if run.rows != records::rows_due(run) {
+        return 13;
+    }
+    0
 }
 
 // Public: fills `out` with the frame's levels of a finished run. Refusals 1, 10, 11, 13.
@@ -81,17 +93,12 @@ pub fn collect(run: Record, levels: &[u16], out: &mut [u16]) -> u32
     if records::record_bad(run) {
         return 1;
     }
-    if records::levels_wrong(run, levels) {
-        return 10;
-    }
-    if out.len() != run.height * run.width {
-        return 11;
-    }
-    if run.rows != records::rows_due(run) {
-        return 13;
+    let refusal = picture_refusal(run, levels, 0, out.len(), run.height * run.width);
+    if refusal != 0 {
+        return refusal;
     }
     let margin = records::margin_of(run.cap, run.side);
-    let limit = collected_limit(run);
+    let limit = kinds::collected_limit(run);
     copy_frame(levels, run.width, run.height, margin, limit, out);
     0
 }
@@ -141,7 +148,7 @@ fn pack_row(
     out: &mut [u8],
     at: usize,
 )
-    requires { ⌜ (from + width ≤ length (now levels)) × ((width ≤ 4096) × (at + rowBytes width ≤ length (now out))) ⌝ }
+    requires { ⌜ (from + width ≤ length (now levels)) × ((width ≤ longestSide) × (at + rowBytes width ≤ length (now out))) ⌝ }
     ensures { λ _. ⌜ Patch at (rowBytes width)
         (packedByte width (λ col. heldBetween low high (getD (now (levels .entry)) (from + col) 0))) (now (out .entry))
         (now (out .exit)) ⌝ }
@@ -187,38 +194,6 @@ pub fn pack_frame(
     }
 }
 
-// The greatest size that may be asked for.
-fn size_limit(run: Record) -> usize
-    ensures { λ r. ⌜ r ≡ sizeLimit run ⌝ }
-{
-    if run.kind == 1 {
-        return 4096;
-    }
-    run.cap
-}
-
-// A held level is above this: the size itself for an erosion, 0 for a dilation.
-pub fn below_held(run: Record, size: usize) -> u16
-    requires { ⌜ size ≤ 4096 ⌝ }
-    ensures { λ r. ⌜ r ≡ cond (isErosion run) size 0 ⌝ }
-{
-    if run.kind == 1 {
-        return size as u16;
-    }
-    0
-}
-
-// A held level is at most this: any for an erosion, the size and one for a dilation.
-pub fn highest_held(run: Record, size: usize) -> u16
-    requires { ⌜ size ≤ 4096 ⌝ }
-    ensures { λ r. ⌜ r ≡ cond (isErosion run) 65535 (size + 1) ⌝ }
-{
-    if run.kind == 1 {
-        return 65535;
-    }
-    size as u16 + 1
-}
-
 // Public: fills `out` with the packed sheet that a finished run holds at a size. Refusals 1, 8, 10, 11, 13.
 pub fn threshold(run: Record, levels: &[u16], size: usize, out: &mut [u8]) -> u32
     ensures { λ r. ⌜ Thresholds run (now (levels .entry)) size (now (out .entry)) r (now (out .exit)) ⌝ }
@@ -226,21 +201,14 @@ pub fn threshold(run: Record, levels: &[u16], size: usize, out: &mut [u8]) -> u3
     if records::record_bad(run) {
         return 1;
     }
-    if size_limit(run) < size {
-        return 8;
-    }
-    if records::levels_wrong(run, levels) {
-        return 10;
-    }
-    if out.len() != run.height * sheet::row_bytes(run.width) {
-        return 11;
-    }
-    if run.rows != records::rows_due(run) {
-        return 13;
+    let wanted = run.height * sheet::row_bytes(run.width);
+    let refusal = picture_refusal(run, levels, size, out.len(), wanted);
+    if refusal != 0 {
+        return refusal;
     }
     let margin = records::margin_of(run.cap, run.side);
-    let low = below_held(run, size);
-    let high = highest_held(run, size);
+    let low = kinds::below_held(run, size);
+    let high = kinds::highest_held(run, size);
     pack_frame(levels, run.width, run.height, margin, low, high, out);
     0
 }

@@ -1,8 +1,10 @@
 // Records: whether a start could have given one, and the area that its run works on.
 use super::Record;
+use super::kinds;
 ghost use mathlib.Core.Path.{_≡_};
 ghost use mathlib.Core.Bool.{true, false};
 ghost use Prim.Native.Nat.{_≤_};
+ghost use Rattle.basics.specs.Limits.{longestSide, highestCap, mostRows};
 ghost use Rattle.element.specs.Elements.{isSide};
 ghost use Rattle.element.specs.Cells.{isHeld};
 ghost use Rattle.run.specs.Records.{marginOf, areaWidth, areaHeight, due, outside, anyOutside, elementForeign, capForeign};
@@ -70,7 +72,7 @@ fn element_foreign(side: usize, cells: [u8; 49]) -> bool
 
 // The margin of the canvas.
 pub fn margin_of(cap: usize, side: usize) -> usize
-    requires { ⌜ (isSide side ≡ true) × (cap ≤ 2047) ⌝ }
+    requires { ⌜ (isSide side ≡ true) × (cap ≤ highestCap) ⌝ }
     ensures { λ r. ⌜ (r ≡ marginOf cap side) × (r ≤ 6141) ⌝ }
 {
     cap * ((side - 1) / 2)
@@ -78,24 +80,24 @@ pub fn margin_of(cap: usize, side: usize) -> usize
 
 // Whether no start takes the kind with the cap, on the canvas that they give.
 fn cap_foreign(run: Record) -> bool
-    requires { ⌜ (isSide (run .side) ≡ true) × ((run .width ≤ 4096) × (run .height ≤ 4096)) ⌝ }
+    requires { ⌜ (isSide (run .side) ≡ true) × ((run .width ≤ longestSide) × (run .height ≤ longestSide)) ⌝ }
     ensures { λ r. ⌜ r ≡ capForeign run ⌝ }
 {
     let cap = run.cap;
-    if run.kind == 1 {
+    if kinds::is_erosion(run) {
         return cap != 0;
     }
-    if run.kind != 2 {
+    if run.kind != kinds::DILATION {
         return true;
     }
-    if 2047 < cap {
+    if basics::HIGHEST_CAP < cap {
         return true;
     }
     let margin = margin_of(cap, run.side);
-    if 4096 < run.width + (margin + margin) {
+    if basics::LONGEST_SIDE < run.width + (margin + margin) {
         return true;
     }
-    4096 < run.height + (margin + margin)
+    basics::LONGEST_SIDE < run.height + (margin + margin)
 }
 
 // Whether no start gives the record, rows done aside.
@@ -118,7 +120,7 @@ fn record_foreign(run: Record) -> bool
 // The sides of the area: the frame's, with the margin on both sides.
 pub fn area_width(run: Record) -> usize
     requires { ⌜ foreign run ≡ false ⌝ }
-    ensures { λ r. ⌜ (r ≡ areaWidth run) × ((1 ≤ r) × (r ≤ 4096)) ⌝ }
+    ensures { λ r. ⌜ (r ≡ areaWidth run) × ((1 ≤ r) × (r ≤ longestSide)) ⌝ }
 {
     let margin = margin_of(run.cap, run.side);
     run.width + (margin + margin)
@@ -126,7 +128,7 @@ pub fn area_width(run: Record) -> usize
 
 pub fn area_height(run: Record) -> usize
     requires { ⌜ foreign run ≡ false ⌝ }
-    ensures { λ r. ⌜ (r ≡ areaHeight run) × ((1 ≤ r) × (r ≤ 4096)) ⌝ }
+    ensures { λ r. ⌜ (r ≡ areaHeight run) × ((1 ≤ r) × (r ≤ longestSide)) ⌝ }
 {
     let margin = margin_of(run.cap, run.side);
     run.height + (margin + margin)
@@ -135,7 +137,7 @@ pub fn area_height(run: Record) -> usize
 // The rows due in all.
 pub fn rows_due(run: Record) -> usize
     requires { ⌜ foreign run ≡ false ⌝ }
-    ensures { λ r. ⌜ (r ≡ due run) × (r ≤ 8192) ⌝ }
+    ensures { λ r. ⌜ (r ≡ due run) × (r ≤ mostRows) ⌝ }
 {
     let height = area_height(run);
     height + height

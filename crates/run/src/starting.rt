@@ -1,5 +1,6 @@
 // Starting a run: the two kinds judge their inputs, fill the levels, and make the record.
 use super::Record;
+use super::kinds;
 use super::records;
 ghost use mathlib.Core.Path.{_≡_};
 ghost use mathlib.Core.Bool.{true, cond};
@@ -7,6 +8,7 @@ ghost use mathlib.Core.List.{_++_};
 ghost use Prim.Native.Nat.{_+_, _*_, _<_, _≤_};
 ghost use lib.Dec.{eqb};
 ghost use lib.ListN.{length};
+ghost use Rattle.basics.specs.Limits.{longestSide, highestCap};
 ghost use Rattle.basics.specs.Refusals.{first};
 ghost use Rattle.element.specs.Elements.{isSide, elementRefusals};
 ghost use Rattle.sheet.specs.Sheets.{pixel, rowBytes, sheetRefusals};
@@ -54,7 +56,7 @@ fn fill_pixels(
     off: u16,
 )
     requires { ⌜ (at + width ≤ length (now levels)) ×
-        ((width ≤ 4096) × ((row < 4096) × (row * rowBytes width + rowBytes width ≤ length (now sheet)))) ⌝ }
+        ((width ≤ longestSide) × ((row < longestSide) × (row * rowBytes width + rowBytes width ≤ length (now sheet)))) ⌝ }
     ensures { λ _. ⌜ Patch at width (λ col. cond (eqb (pixel width (now (sheet .entry)) row col) 1) on off) (now (levels .entry))
         (now (levels .exit)) ⌝ }
 {
@@ -132,16 +134,16 @@ pub fn start_refusal(width: usize, height: usize, sheet: &[u8], side: usize, byt
 
 // Refusals 9 and 10 of a canvas with so many levels, or 0.
 pub fn canvas_refusal(width: usize, height: usize, cap: usize, side: usize, count: usize) -> u32
-    requires { ⌜ (width ≤ 4096) × ((height ≤ 4096) × ((isSide side ≡ true) × (cap ≤ 2047))) ⌝ }
+    requires { ⌜ (width ≤ longestSide) × ((height ≤ longestSide) × ((isSide side ≡ true) × (cap ≤ highestCap))) ⌝ }
     ensures { λ r. ⌜ r ≡ first (canvasRefusals width height cap side count) ⌝ }
 {
     let margin = records::margin_of(cap, side);
     let canvas_width = width + (margin + margin);
     let canvas_height = height + (margin + margin);
-    if 4096 < canvas_width {
+    if basics::LONGEST_SIDE < canvas_width {
         return 9;
     }
-    if 4096 < canvas_height {
+    if basics::LONGEST_SIDE < canvas_height {
         return 9;
     }
     if count != canvas_height * canvas_width {
@@ -189,7 +191,7 @@ pub fn dilation_refusal(
     if refusal != 0 {
         return refusal;
     }
-    if 2047 < cap {
+    if basics::HIGHEST_CAP < cap {
         return 8;
     }
     canvas_refusal(width, height, cap, side, levels.len())
@@ -243,8 +245,8 @@ pub fn start_erosion(
     if refusal != 0 {
         return refused(refusal);
     }
-    fill_area(levels, width, height, 0, sheet, 65535, 0);
-    begun(1, width, height, 0, side, bytes)
+    fill_area(levels, width, height, 0, sheet, row::NONE, 0);
+    begun(kinds::EROSION, width, height, 0, side, bytes)
 }
 
 // Public: starts a dilation on the canvas, its levels 1 on the foreground and 65,535 elsewhere. Refusals 2 to 10.
@@ -265,6 +267,6 @@ pub fn start_dilation(
         return refused(refusal);
     }
     let margin = records::margin_of(cap, side);
-    fill_area(levels, width, height, margin, sheet, 1, 65535);
-    begun(2, width, height, cap, side, bytes)
+    fill_area(levels, width, height, margin, sheet, 1, row::NONE);
+    begun(kinds::DILATION, width, height, cap, side, bytes)
 }
