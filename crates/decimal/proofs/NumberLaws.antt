@@ -180,8 +180,7 @@ module _ (n at : ℕ) (buffer : List ℕ) (fits : at + length (digits n) ≤ len
   written-from = drop-at (take at buffer) (digits n ++ drop (at + length (digits n)) buffer) at before-length
 
   -- THE ROUND TRIP: where a number was written, and the list ends or goes on with no digit, its digits are read, it is their
-  -- value, and the place
-  -- after them is the place after the number
+  -- value, and the place after them is the place after the number
   module _ (stops : digitRun (drop (at + length (digits n)) buffer) ≡ []) where
     pub round-trip-run : digitRun (drop at (written n at buffer)) ≡ digits n
     round-trip-run = ap digitRun written-from ∙ run-digits n (drop (at + length (digits n)) buffer) stops

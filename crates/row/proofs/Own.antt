@@ -12,7 +12,7 @@ use lib.ListN.{length, getD, set}
 use lib.Seq.{getD-set-same, getD-set-other, set-getD}
 use borrow.Author.Tests.{eq-eqb, le-leb, lt-leb}
 use Rattle.row.specs.RowRule.{none, more, place}
-use Rattle.row.specs.Passes.{worked, picked, nearest, step, Lowest, ownPoint, ownColumns}
+use Rattle.row.specs.Passes.{levelBack, picked, nearest, step, Lowest, ownPoint, ownColumns}
 use Rattle.row.proofs.Pass.{ordered, more-least}
 
 pub place-in : (upward : Bool) (width t : ℕ) → t < width → place upward width t < width
@@ -58,20 +58,20 @@ by-steps level one two three near middle far small =
     )
 
 module _ (upward : Bool) (width start beyond : ℕ) where
-  worked-now : (levels : List ℕ) (t level : ℕ) → t < width → start + width ≤ length levels →
-      worked upward width start beyond (set levels (start + place upward width t) level) (t + 1) 1 ≡ level
-  unfolding worked
-  worked-now levels t level h room =
+  back-now : (levels : List ℕ) (t level : ℕ) → t < width → start + width ≤ length levels →
+      levelBack upward width start beyond (set levels (start + place upward width t) level) (t + 1) 1 ≡ level
+  unfolding levelBack
+  back-now levels t level h room =
       let q : t + 1 - 1 ≡ t = omega arith in
       let p : 1 ≤ t + 1 = omega arith in
       simp (le-leb _ _ p, q) (getD-set-same levels (start + place upward width t) level 0
       (omega (arith, place-in upward width t h)))
 
-  worked-next : (levels : List ℕ) (t level d : ℕ) → t < width → 1 ≤ d →
-      worked upward width start beyond (set levels (start + place upward width t) level) (t + 1) (d + 1)
-      ≡ worked upward width start beyond levels t d
-  unfolding worked
-  worked-next levels t level d h back =
+  back-next : (levels : List ℕ) (t level d : ℕ) → t < width → 1 ≤ d →
+      levelBack upward width start beyond (set levels (start + place upward width t) level) (t + 1) (d + 1)
+      ≡ levelBack upward width start beyond levels t d
+  unfolding levelBack
+  back-next levels t level d h back =
       ⊎-elim
       (λ (m : t < d).
       let p : t + 1 < d + 1 = omega arith in
@@ -90,14 +90,14 @@ module _ (upward : Bool) (width start beyond : ℕ) where
 
   -- after t turns, with the three levels worked last in locals
   pub record Kept (one two three t near middle far : ℕ) (entry levels : List ℕ) : Type 0 where
-    pub near-is : near ≡ worked upward width start beyond levels t 1
-    pub middle-is : middle ≡ worked upward width start beyond levels t 2
-    pub far-is : far ≡ worked upward width start beyond levels t 3
+    pub near-is : near ≡ levelBack upward width start beyond levels t 1
+    pub middle-is : middle ≡ levelBack upward width start beyond levels t 2
+    pub far-is : far ≡ levelBack upward width start beyond levels t 3
     pub small : (near ≤ none) × ((middle ≤ none) × (far ≤ none))
     pub so-far : levels ≡ ownColumns upward width start one two three beyond t entry
 
   pub kept-start : (one two three : ℕ) (entry : List ℕ) → beyond ≤ none → Kept one two three 0 beyond beyond beyond entry entry
-  unfolding worked ownColumns
+  unfolding levelBack ownColumns
   kept-start one two three entry small =
       record { near-is = refl; middle-is = refl; far-is = refl; small = (small, (small, small)); so-far = refl }
 
@@ -112,9 +112,9 @@ module _ (upward : Bool) (width start beyond : ℕ) where
       let low : level ≡ min (getD levels at 0) (more (nearest one two three near middle far)) = L .value
       ∙ by-steps (getD levels at 0) one two three near middle far (L .small) in
       record {
-        near-is = rw (L .stored) (sym (worked-now levels t level turn room));
-        middle-is = rw (L .stored) (K .near-is ∙ sym (worked-next levels t level 1 turn (omega arith)));
-        far-is = rw (L .stored) (K .middle-is ∙ sym (worked-next levels t level 2 turn (omega arith)));
+        near-is = rw (L .stored) (sym (back-now levels t level turn room));
+        middle-is = rw (L .stored) (K .near-is ∙ sym (back-next levels t level 1 turn (omega arith)));
+        far-is = rw (L .stored) (K .middle-is ∙ sym (back-next levels t level 2 turn (omega arith)));
         small = (omega (arith, L .small), (K .small .0, K .small .1 .0));
         so-far = rw (add-one, ← K .so-far, ← K .near-is, ← K .middle-is, ← K .far-is, L .stored, low);
       }

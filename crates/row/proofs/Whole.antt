@@ -14,7 +14,7 @@ use lib.Dec.{eqb}
 use borrow.Author.Tests.{le-leb, lt-leb}
 use Rattle.row.specs.RowRule.{Area, none, more, cellNumber, levelAt, partner, least, firstMet, lowered, pointRule, place}
 use Rattle.row.specs.RowRule.{columns, rowRule}
-use Rattle.row.specs.Passes.{Pass, columnAt, firstOther, cellBack, worked, picked, nearest, ownPoint, ownColumns}
+use Rattle.row.specs.Passes.{Pass, columnAt, firstOther, cellBack, levelBack, picked, nearest, ownPoint, ownColumns}
 use Rattle.row.proofs.Pass.{ordered, lower-twice}
 use Rattle.row.proofs.Columns.{within-in, column-in, column-out}
 use Rattle.row.proofs.Least.{least-small, least-split, least-same}
@@ -42,8 +42,8 @@ module _ (area : Area) (upward : Bool) (row : ℕ) (in-area : row < area .height
   -- a partner in the own row is a level worked
   back-level : (levels : List ℕ) (t d : ℕ) → t < area .width → 1 ≤ d → d ≤ 3 →
       levelAt area levels (row + cellBack upward d / 7) (place upward (area .width) t + cellBack upward d % 7)
-      ≡ worked upward (area .width) (row * area .width) (area .beyond) levels t d
-  unfolding levelAt columnAt worked
+      ≡ levelBack upward (area .width) (row * area .width) (area .beyond) levels t d
+  unfolding levelAt columnAt levelBack
   back-level levels t d turn one three =
       let w : ℕ = area .width in
       let x : ℕ = place upward w t + cellBack upward d % 7 in
@@ -64,14 +64,14 @@ module _ (area : Area) (upward : Bool) (row : ℕ) (in-area : row < area .height
   near levels t =
       nearest (cellNumber (area .cells) (cellBack upward 1)) (cellNumber (area .cells) (cellBack upward 2))
       (cellNumber (area .cells) (cellBack upward 3))
-      (worked upward (area .width) (row * area .width) (area .beyond) levels t 1)
-      (worked upward (area .width) (row * area .width) (area .beyond) levels t 2)
-      (worked upward (area .width) (row * area .width) (area .beyond) levels t 3)
+      (levelBack upward (area .width) (row * area .width) (area .beyond) levels t 1)
+      (levelBack upward (area .width) (row * area .width) (area .beyond) levels t 2)
+      (levelBack upward (area .width) (row * area .width) (area .beyond) levels t 3)
 
   back-partner : (levels : List ℕ) (t d : ℕ) → t < area .width → 1 ≤ d → d ≤ 3 →
       partner area levels row (place upward (area .width) t) (cellBack upward d)
       ≡ picked (cellNumber (area .cells) (cellBack upward d))
-      (worked upward (area .width) (row * area .width) (area .beyond) levels t d)
+      (levelBack upward (area .width) (row * area .width) (area .beyond) levels t d)
   unfolding partner picked
   back-partner levels t d turn one three =
       ap (λ (x : ℕ). cond (eqb (cellNumber (area .cells) (cellBack upward d)) 0) none x) (back-level levels t d turn one three)
@@ -136,11 +136,11 @@ module _ (area : Area) (upward : Bool) (row : ℕ) (in-area : row < area .height
 
   -- both give the column of turn t the same level
   module _ (t : ℕ) (points own : List ℕ) (turn : t < area .width) (A : Ahead area upward row t points own) where
-    worked-same : (d : ℕ) → 1 ≤ d →
-        worked upward (area .width) (row * area .width) (area .beyond) own t d
-        ≡ worked upward (area .width) (row * area .width) (area .beyond) points t d
-    unfolding worked
-    worked-same d back =
+    back-same : (d : ℕ) → 1 ≤ d →
+        levelBack upward (area .width) (row * area .width) (area .beyond) own t d
+        ≡ levelBack upward (area .width) (row * area .width) (area .beyond) points t d
+    unfolding levelBack
+    back-same d back =
         ⊎-elim
         (λ (h : t < d). simp (lt-leb _ _ h))
         (λ (h : d ≤ t). simp (le-leb _ _ h) (A .done (t - d) (omega arith) (omega arith)))
@@ -151,9 +151,9 @@ module _ (area : Area) (upward : Bool) (row : ℕ) (in-area : row < area .height
     unfolding near
     least-met =
         rw (
-          worked-same 1 (omega arith),
-          worked-same 2 (omega arith),
-          worked-same 3 (omega arith),
+          back-same 1 (omega arith),
+          back-same 2 (omega arith),
+          back-same 3 (omega arith),
           ← back-partner area upward row in-area points t 1 turn (omega arith) (omega arith),
           ← back-partner area upward row in-area points t 2 turn (omega arith) (omega arith),
           ← back-partner area upward row in-area points t 3 turn (omega arith) (omega arith),

@@ -29,8 +29,8 @@ cellBack false d = 24 - d
 cellBack true d = 24 + d
 
 -- the level of the column worked d turns before turn t, in the row that begins at start
-unfoldable pub worked : Bool → ℕ → ℕ → ℕ → List ℕ → ℕ → ℕ → ℕ
-worked upward width start beyond levels t d = cond (leb d t) (getD levels (start + place upward width (t - d)) 0) beyond
+unfoldable pub levelBack : Bool → ℕ → ℕ → ℕ → List ℕ → ℕ → ℕ → ℕ
+levelBack upward width start beyond levels t d = cond (leb d t) (getD levels (start + place upward width (t - d)) 0) beyond
 
 -- a partner's level, where its cell is set
 unfoldable pub picked : ℕ → ℕ → ℕ
@@ -55,8 +55,8 @@ unfoldable pub ownPoint : Bool → ℕ → ℕ → ℕ → ℕ → ℕ → ℕ �
 ownPoint upward width start one two three beyond levels t =
     set levels (start + place upward width t)
     (min (getD levels (start + place upward width t) 0)
-    (more (nearest one two three (worked upward width start beyond levels t 1) (worked upward width start beyond levels t 2)
-    (worked upward width start beyond levels t 3))))
+    (more (nearest one two three (levelBack upward width start beyond levels t 1) (levelBack upward width start beyond levels t 2)
+    (levelBack upward width start beyond levels t 3))))
 
 -- the first t columns
 unfoldable pub ownColumns : Bool → ℕ → ℕ → ℕ → ℕ → ℕ → ℕ → ℕ → List ℕ → List ℕ

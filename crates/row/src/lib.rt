@@ -3,10 +3,11 @@ ghost use mathlib.Core.Path.{_≡_};
 ghost use mathlib.Core.Logic.{_⊎_};
 ghost use Prim.Native.Nat.{_+_, _-_, _*_, _<_, _≤_, min};
 ghost use lib.ListN.{length, getD, set};
-ghost use Rattle.row.specs.RowRule.{more, cellNumber, within, place, least, rowRule};
+ghost use Rattle.basics.specs.Limits.{longestSide};
+ghost use Rattle.row.specs.RowRule.{none, more, cellNumber, within, place, least, rowRule};
 ghost use Rattle.row.specs.Passes.{Pass, columnAt, firstOther, cellBack, step, Lowest, ownColumns};
 
-// "Nothing found yet".
+// The level that means "nothing found yet".
 pub const NONE: u16 = 65535;
 
 fn lesser(a: u16, b: u16) -> u16
@@ -18,7 +19,7 @@ fn lesser(a: u16, b: u16) -> u16
 fn one_more(level: u16) -> u16
     ensures { λ r. ⌜ r ≡ more level ⌝ }
 {
-    if level < 65535 { level + 1 } else { 65535 }
+    if level < NONE { level + 1 } else { NONE }
 }
 
 // The level at `at`, lowered to one more than `level`.
@@ -83,7 +84,7 @@ fn by_columns(part: &mut [u16], width: usize, at: usize, from: usize, across: us
 
 // Whether place `p`, counted from 3 before the first of `n`, is one of the `n`.
 fn inside(n: usize, p: usize) -> bool
-    requires { ⌜ n ≤ 4096 ⌝ }
+    requires { ⌜ n ≤ longestSide ⌝ }
     ensures { λ r. ⌜ r ≡ within n p ⌝ }
 {
     if p < 3 {
@@ -102,7 +103,7 @@ fn by_cell(
     cells: [[u8; 7]; 7],
     beyond: u16,
 )
-    requires { ⌜ (length (now part) ≡ rows * width) × ((row < rows) × ((rows ≤ 4096) × ((k < 49) × ((k < 21) ⊎ (28 ≤ k))))) ⌝ }
+    requires { ⌜ (length (now part) ≡ rows * width) × ((row < rows) × ((rows ≤ longestSide) × ((k < 49) × ((k < 21) ⊎ (28 ≤ k))))) ⌝ }
     ensures { λ _. ⌜ Pass (row * width) width (λ col. least
         (record { width = width; height = rows; beyond = beyond; cells = cells }) (now (part .entry)) row col k 1)
         (now (part .entry)) (now (part .exit)) ⌝ }
@@ -136,7 +137,7 @@ fn by_other_rows(
     cells: [[u8; 7]; 7],
     beyond: u16,
 )
-    requires { ⌜ (length (now part) ≡ rows * width) × ((row < rows) × (rows ≤ 4096)) ⌝ }
+    requires { ⌜ (length (now part) ≡ rows * width) × ((row < rows) × (rows ≤ longestSide)) ⌝ }
     ensures { λ _. ⌜ Pass (row * width) width (λ col. least
         (record { width = width; height = rows; beyond = beyond; cells = cells }) (now (part .entry)) row col
         (firstOther upward) 21) (now (part .entry)) (now (part .exit)) ⌝ }
@@ -171,19 +172,19 @@ fn cell_back(cells: [[u8; 7]; 7], upward: bool, d: usize) -> u8
 
 // Levels of 32 bits: one and a step add up with no limit to test.
 fn wide(level: u16) -> u32
-    ensures { λ r. ⌜ (r ≡ level) × (r ≤ 65535) ⌝ }
+    ensures { λ r. ⌜ (r ≡ level) × (r ≤ none) ⌝ }
 {
     level as u32
 }
 
 fn narrow(level: u32) -> u16
-    requires { ⌜ level ≤ 65535 ⌝ }
+    requires { ⌜ level ≤ none ⌝ }
     ensures { λ r. ⌜ r ≡ level ⌝ }
 {
     level as u16
 }
 
-fn least_of(a: u32, b: u32) -> u32
+fn lesser_wide(a: u32, b: u32) -> u32
     ensures { λ r. ⌜ r ≡ min a b ⌝ }
 {
     if a < b { a } else { b }
@@ -191,9 +192,9 @@ fn least_of(a: u32, b: u32) -> u32
 
 // What a cell of the own row adds to its partner's level: 1, or, where it is not set, so much that nothing is lowered.
 fn step_of(cell: u8) -> u32
-    ensures { λ r. ⌜ (r ≡ step cell) × (r ≤ 65535) ⌝ }
+    ensures { λ r. ⌜ (r ≡ step cell) × (r ≤ none) ⌝ }
 {
-    if cell == 0 { 65535 } else { 1 }
+    if cell == 0 { NONE as u32 } else { 1 }
 }
 
 // The level at `at`, lowered to the least of three. It waits for `near` last, which is known last.
@@ -201,8 +202,8 @@ fn lower_to_least(part: &mut [u16], at: usize, near: u32, middle: u32, far: u32)
     requires { ⌜ at < length (now part) ⌝ }
     ensures { λ r. ⌜ Lowest (now (part .entry)) (now (part .exit)) at near middle far r ⌝ }
 {
-    let early = least_of(wide(part[at]), least_of(middle, far));
-    let level = least_of(early, near);
+    let early = lesser_wide(wide(part[at]), lesser_wide(middle, far));
+    let level = lesser_wide(early, near);
     part[at] = narrow(level);
     level
 }
@@ -261,7 +262,7 @@ pub fn row_rule(
     cells: [[u8; 7]; 7],
     beyond: u16,
 )
-    requires { ⌜ (length (now part) ≡ rows * width) × ((row < rows) × ((width ≤ 4096) × (rows ≤ 4096))) ⌝ }
+    requires { ⌜ (length (now part) ≡ rows * width) × ((row < rows) × ((width ≤ longestSide) × (rows ≤ longestSide))) ⌝ }
     ensures { λ _. ⌜ now (part .exit)
         ≡ rowRule (record { width = width; height = rows; beyond = beyond; cells = cells }) upward row (now (part .entry)) ⌝ }
 {

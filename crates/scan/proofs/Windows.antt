@@ -13,6 +13,7 @@ use lib.Dec.{eqb, leb, ltb}
 use lib.ListN.{length, getD, take, drop, set, take-append-drop, length-take, length-drop, drop-of-length-le}
 use lib.Seq.{length-take-le, take-all, getD-append-add}
 use borrow.Author.Tests.{le-leb, lt-ltb, le-ltb, eq-eqb, ne-eqb}
+use Rattle.basics.specs.Limits.{longestSide}
 use Rattle.row.specs.RowRule.{Area, none, more, cellNumber, within, levelAt, partner, least, firstMet, lowered, pointRule, place}
 use Rattle.row.specs.RowRule.{columns, rowRule}
 use borrow.Rule.Slice.PartMut.{putMid}
@@ -189,9 +190,9 @@ down-within reach row cells r = record { met = λ k a b c. go k (r .above k (ome
 
 -- small enough for a machine's word
 pub place-small : (width height start : ℕ) (levels : List ℕ) → Lent width height levels → start < height
-    → start * width ≤ 4096 * 4096
+    → start * width ≤ longestSide * longestSide
 place-small width height start levels lent l =
-    mul-le-mul (let h = lent .high in let s : start ≤ 4096 = omega arith in s) (lent .wide .1)
+    mul-le-mul (let h = lent .high in let s : start ≤ longestSide = omega arith in s) (lent .wide .1)
 
 -- what was lent from a place on comes back in its place
 pub lent-part : (at : ℕ) (levels after : List ℕ) (f : List ℕ → List ℕ) → after ≡ f (take (length levels - at) (drop at levels))

@@ -6,6 +6,7 @@ use lib.ListN.{length}
 use mathlib.Core.Bool.{Bool, true, false, cond}
 use mathlib.Core.List.{List}
 use lib.Dec.{ltb}
+use Rattle.basics.specs.Limits.{longestSide}
 use Rattle.row.specs.RowRule.{Area, cellNumber, firstMet, rowRule}
 
 -- the row that is worked after `done` rows
@@ -24,8 +25,8 @@ area width height beyond cells = record { width = width; height = height; beyond
 
 -- what the code asks of the levels lent, and of an element and its reach
 pub record Lent (width height : ℕ) (levels : List ℕ) : Type 0 where
-  pub wide : (1 ≤ width) × (width ≤ 4096)
-  pub high : (1 ≤ height) × (height ≤ 4096)
+  pub wide : (1 ≤ width) × (width ≤ longestSide)
+  pub high : (1 ≤ height) × (height ≤ longestSide)
   pub size : length levels ≡ height * width
 
 -- every partner met of a row lies in the part that begins at row `start`, or beyond the area

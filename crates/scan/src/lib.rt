@@ -1,8 +1,6 @@
 // A scan of rows over lent levels: each row is worked in the part of the levels that begins where document 01 says.
 ghost use mathlib.Core.Path.{_≡_};
-ghost use mathlib.Core.Bool.{true, false};
-ghost use Prim.Native.Nat.{_+_, _-_, _*_, _<_, _≤_, min};
-ghost use lib.ListN.{length};
+ghost use Prim.Native.Nat.{_+_, _<_, _≤_, min};
 ghost use Rattle.row.specs.RowRule.{rowRule};
 ghost use Rattle.scan.specs.Scan.{area, Lent, Within, Reaches, scanRow, scanRows};
 

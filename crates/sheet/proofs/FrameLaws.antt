@@ -9,6 +9,7 @@ use mathlib.Core.List.{List, [], _∷_}
 use lib.Dec.{eqb, ltb}
 use lib.ListN.{length}
 use borrow.Author.Tests.{eq-eqb, ne-eqb, eqb-true, eqb-false, ltb-false}
+use Rattle.basics.specs.Limits.{longestSide}
 use Rattle.basics.specs.Refusals.{first}
 use Rattle.basics.proofs.RefusalLaws.{first-refused, first-accepted}
 use Rattle.sheet.specs.Sheets.{rowBytes, isSideOut, frameRefusals, sheetRefusals}
@@ -18,16 +19,16 @@ module _ (side : ℕ) where
   unfolding isSideOut
   side-zero e = rw (eq-eqb side 0 e)
 
-  pub side-positive : side ≢ 0 → ltb 4096 side ≡ isSideOut side
+  pub side-positive : side ≢ 0 → ltb longestSide side ≡ isSideOut side
   unfolding isSideOut
   side-positive n = rw (ne-eqb side 0 n)
 
-  pub side-in : isSideOut side ≡ false → (1 ≤ side) × (side ≤ 4096)
+  pub side-in : isSideOut side ≡ false → (1 ≤ side) × (side ≤ longestSide)
   unfolding isSideOut
-  side-in e = go (eqb side 0) (ltb 4096 side) refl refl e
+  side-in e = go (eqb side 0) (ltb longestSide side) refl refl e
     where
-      go : (a b : Bool) → eqb side 0 ≡ a → ltb 4096 side ≡ b → a || b ≡ false → (1 ≤ side) × (side ≤ 4096)
-      go false false p q r = let n = eqb-false side 0 p in (omega arith, ltb-false 4096 side q)
+      go : (a b : Bool) → eqb side 0 ≡ a → ltb longestSide side ≡ b → a || b ≡ false → (1 ≤ side) × (side ≤ longestSide)
+      go false false p q r = let n = eqb-false side 0 p in (omega arith, ltb-false longestSide side q)
       go false true p q r = absurd (true≢false r)
       go true b p q r = absurd (true≢false r)
 
@@ -42,17 +43,17 @@ module _ (width height : ℕ) where
   accept-frame e f = rw (e, f)
 
   -- an accepted frame has sides from 1 to 4,096
-  pub frame-sides : first (frameRefusals width height) ≡ 0 → ((1 ≤ width) × (width ≤ 4096)) × ((1 ≤ height) × (height ≤ 4096))
+  pub frame-sides : first (frameRefusals width height) ≡ 0 → ((1 ≤ width) × (width ≤ longestSide)) × ((1 ≤ height) × (height ≤ longestSide))
   frame-sides e = go (isSideOut width) (isSideOut height) refl refl e
     where
       go : (a b : Bool) → isSideOut width ≡ a → isSideOut height ≡ b → first ((2, a || b) ∷ []) ≡ 0
-          → ((1 ≤ width) × (width ≤ 4096)) × ((1 ≤ height) × (height ≤ 4096))
+          → ((1 ≤ width) × (width ≤ longestSide)) × ((1 ≤ height) × (height ≤ longestSide))
       go false false p q r = (side-in width p, side-in height q)
       go false true p q r = absurd (omega arith)
       go true b p q r = absurd (omega arith)
 
   -- its bytes are few
-  pub raster-small : width ≤ 4096 → height ≤ 4096 → height * rowBytes width ≤ 4096 * 512
+  pub raster-small : width ≤ longestSide → height ≤ longestSide → height * rowBytes width ≤ longestSide * 512
   raster-small a b = mul-le-mul b (let l : rowBytes width ≤ 512 = omega arith in l)
 
   module _ (bytes : List ℕ) where

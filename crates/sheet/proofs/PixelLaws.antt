@@ -10,6 +10,7 @@ use mathlib.Core.List.{List}
 use lib.Dec.{ltb}
 use lib.ListN.{length}
 use borrow.Author.Tests.{lt-ltb, ltb-true}
+use Rattle.basics.specs.Limits.{longestSide}
 use Rattle.basics.proofs.TableLaws.{length-raster, getD-raster, raster-same}
 use Rattle.grid.specs.Sets.{_≈_}
 use Rattle.grid.specs.Figures.{figure}
@@ -17,8 +18,8 @@ use Rattle.grid.proofs.FigureLaws.{figure-same}
 use Rattle.sheet.specs.Sheets.{rowBytes, bit, pixel, foreground, packedByte, packed}
 
 -- and few bytes stand before it
-pub place-small : (width row : ℕ) → width ≤ 4096 → row < 4096 → row * rowBytes width ≤ 4096 * 512
-place-small width row a b = mul-le-mul (let l : row ≤ 4096 = omega arith in l) (let l : rowBytes width ≤ 512 = omega arith in l)
+pub place-small : (width row : ℕ) → width ≤ longestSide → row < longestSide → row * rowBytes width ≤ longestSide * 512
+place-small width row a b = mul-le-mul (let l : row ≤ longestSide = omega arith in l) (let l : rowBytes width ≤ 512 = omega arith in l)
 
 pub pixel-binary : (width : ℕ) (bytes : List ℕ) (row col : ℕ) → pixel width bytes row col ≤ 1
 unfolding pixel

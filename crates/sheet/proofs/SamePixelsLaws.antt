@@ -1,6 +1,6 @@
 -- PADDING BITS CHANGE NOTHING. Sheets that differ in padding bits only have the same pixels, since a pixel's bit stands above
 -- them; sheets with the same pixels mean the same set, are packed alike, and a sheet packed anew has the pixels that it had.
-use Prim.Native.Nat.{ℕ, zero, suc, _+_, _-_, _*_, _/_, _%_, _^_}
+use Prim.Native.Nat.{ℕ, zero, suc, _+_, _-_, _/_, _%_, _^_}
 use native.Mathlib.Nat.{add-zero, add-suc, pow-suc, div-div-eq-div-mul}
 use native.Mathlib.Omega.{arith}
 use mathlib.Core.Path.{_≡_, sym, ap, _∙_}

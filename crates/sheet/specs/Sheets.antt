@@ -5,6 +5,7 @@ use mathlib.Core.Bool.{Bool, not, cond, _||_}
 use mathlib.Core.List.{List, [], _∷_, _++_}
 use lib.Dec.{eqb, ltb}
 use lib.ListN.{length, getD}
+use Rattle.basics.specs.Limits.{longestSide}
 use Rattle.basics.specs.Refusals.{Refusal}
 use Rattle.basics.specs.Tables.{raster}
 use Rattle.grid.specs.Sets.{PointSet}
@@ -27,7 +28,7 @@ foreground width height bytes = figure width height (pixel width bytes)
 
 -- when a frame or a sheet is refused
 unfoldable pub isSideOut : ℕ → Bool
-isSideOut side = eqb side 0 || ltb 4096 side
+isSideOut side = eqb side 0 || ltb longestSide side
 
 abbrev pub frameRefusals : ℕ → ℕ → List Refusal
 frameRefusals width height = (2, isSideOut width || isSideOut height) ∷ []

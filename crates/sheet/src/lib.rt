@@ -2,12 +2,13 @@
 ghost use mathlib.Core.Path.{_≡_};
 ghost use Prim.Native.Nat.{_+_, _*_, _/_, _<_, _≤_};
 ghost use lib.ListN.{length};
+ghost use Rattle.basics.specs.Limits.{longestSide};
 ghost use Rattle.basics.specs.Refusals.{first};
 ghost use Rattle.sheet.specs.Sheets.{rowBytes, isSideOut, frameRefusals, sheetRefusals, pixel};
 
 // The bytes of a row.
 pub fn row_bytes(width: usize) -> usize
-    requires { ⌜ width ≤ 4096 ⌝ }
+    requires { ⌜ width ≤ longestSide ⌝ }
     ensures { λ r. ⌜ r ≡ rowBytes width ⌝ }
 {
     (width + 7) / 8
@@ -19,7 +20,7 @@ pub fn is_side_out(side: usize) -> bool
     if side == 0 {
         return true;
     }
-    4096 < side
+    basics::LONGEST_SIDE < side
 }
 
 // Refusal 2 of a frame, or 0.
@@ -51,7 +52,7 @@ pub fn sheet_refusal(width: usize, height: usize, sheet: &[u8]) -> u32
 
 // The pixel at a row and a column of the frame.
 pub fn pixel_at(width: usize, sheet: &[u8], row: usize, col: usize) -> u8
-    requires { ⌜ (width ≤ 4096) × ((row < 4096) × ((col < width) × (row * rowBytes width + col / 8 < length (now sheet)))) ⌝ }
+    requires { ⌜ (width ≤ longestSide) × ((row < longestSide) × ((col < width) × (row * rowBytes width + col / 8 < length (now sheet)))) ⌝ }
     ensures { λ r. ⌜ r ≡ pixel width (now (sheet .entry)) row col ⌝ }
 {
     let byte = sheet[row * row_bytes(width) + col / 8];

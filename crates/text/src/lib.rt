@@ -1,5 +1,4 @@
 // Texts written into lent buffers, piece after piece; every file format is written with these.
-ghost use mathlib.Core.Path.{_≡_};
 ghost use mathlib.Core.List.{_++_};
 ghost use Prim.Native.Nat.{_+_, _≤_};
 ghost use lib.ListN.{length};

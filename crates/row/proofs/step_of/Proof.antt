@@ -1,4 +1,5 @@
 -- By the cell, set or not.
+use borrow.Author.Needs.{needs}
 use native.Mathlib.Omega.{arith}
 use borrow.Author.Tests.{eq-eqb, ne-eqb}
 use Rattle.row.specs.Passes.{step}
@@ -14,4 +15,4 @@ unfolding step
 returns-2 c = (rw (ne-eqb _ _ (c .if1 .left)), omega arith)
 
 pub step-of-spec : {M : Type 1} → statement M
-step-of-spec = tie.close (tie.spec returns returns-2)
+step-of-spec = tie.close (tie.spec (λ c. search needs) returns returns-2)
