@@ -1,7 +1,7 @@
 -- Lists of refusals, two in a row judged one after the other; and Answers: a refusing and an accepting call, and no second
 -- outcome.
 use Prim.Native.Nat.{ℕ}
-use mathlib.Core.Path.{_≡_, refl, sym, _∙_}
+use mathlib.Core.Path.{_≡_, refl, sym, subst₂, _∙_}
 use mathlib.Core.Bool.{Bool, true, false, not, cond, _&&_}
 use mathlib.Core.List.{List, [], _∷_, _++_}
 use mathlib.Core.Logic.{_≢_}
@@ -81,3 +81,10 @@ pub rule-unique : {A : Type 0} {refusals : List Refusal} {kept answer : A} (m n 
     → Answers refusals kept (λ after. after ≡ answer) m x → Answers refusals kept (λ after. after ≡ answer) n y
     → (m ≡ n) × (x ≡ y)
 rule-unique = answers-unique (λ x y p q. p ∙ sym q)
+
+-- and where two calls have the same refusals, kept values and answer
+pub rule-alike : {A : Type 0} {one other : List Refusal} {kept answer answer′ : A} → one ≡ other → answer ≡ answer′
+    → (m n : ℕ) (x y : A) → Answers one kept (λ after. after ≡ answer) m x
+    → Answers other kept (λ after. after ≡ answer′) n y → (m ≡ n) × (x ≡ y)
+rule-alike {kept = kept} e f m n x y p =
+    rule-unique m n x y (subst₂ (λ refusals answer. Answers refusals kept (λ after. after ≡ answer) m x) e f p)

@@ -1,111 +1,124 @@
--- Demand 3: cuts may not show. By induction on the series: each slice takes the run from one unbroken scan to a longer one, since
--- m rows and then n rows are m + n rows.
+-- Demand 3: cuts may not show. By induction on the series: an accepted call takes the run from one unbroken scan to a longer one,
+-- since m rows and then n rows are m + n rows; a refused one leaves it.
+-- A picture's refusals compute once the record, the levels and the room are known to be in order: the rows alone decide.
 use Prim.Native.Nat.{ℕ, _+_, _-_, _*_, _≤_, min}
+use native.Mathlib.Decide.{ℕ-discrete}
 use native.Mathlib.Omega.{arith}
-use mathlib.Core.Path.{_≡_, sym, ap, _∙_}
+use mathlib.Core.Path.{_≡_, refl, sym, ap, subst, _∙_}
 use mathlib.Core.Bool.{Bool, true, false, not, cond}
 use mathlib.Core.Logic.{_≢_}
 use mathlib.Core.List.{List, [], _∷_}
 use lib.Dec.{eqb, ltb}
 use lib.ListN.{length}
-use borrow.Author.Tests.{le-ltb, eq-eqb, ne-eqb}
+use borrow.Author.Tests.{le-ltb, eq-eqb, ne-eqb, eqb-true}
+use Rattle.basics.specs.Limits.{mostRows}
 use Rattle.basics.specs.Refusals.{first}
+use Rattle.basics.proofs.RefusalLaws.{refuses, accepts}
 use Rattle.sheet.specs.Sheets.{rowBytes}
 use Rattle.scan.specs.Scan.{scanRows}
 use Rattle.scan.proofs.ScanLaws.{rows-add, rows-length, rows-none}
 use Rattle.run.specs.declared.Record.{Record}
-use Rattle.run.specs.Records.{areaWidth, areaHeight, areaOf, due, recordBad}
-use Rattle.run.specs.Continuing.{levelsWrong, withRows, isDone, continued}
-use Rattle.run.specs.Pictures.{sizeLimit}
-use Rattle.run.specs.Series.{Started, State, isAccepted, slice, slices, allowed, unbroken, CutsDoNotShow, NoneReleased}
-use Rattle.run.specs.Series.{UnfinishedRefused}
+use Rattle.run.specs.Records.{areaWidth, areaHeight, areaOf, due, recordBad, noRecord}
+use Rattle.run.specs.Continuing.{levelsWrong, withRows, isDone, continued, continueRefusals, Continues}
+use Rattle.run.specs.Pictures.{sizeLimit, collectRefusals, thresholdRefusals}
+use Rattle.run.specs.Series.{Started, State, Slice, Allowed, IsSeries, begun, next, after, allowed, unbroken, rowsWorked}
+use Rattle.run.specs.Series.{SeriesExist, CutsDoNotShow, AcceptedExactly, NoneReleased, UnfinishedRefused, Released}
 use Rattle.run.proofs.Started.{IsStart, is-start, foreign-rows}
 
 module _ (r : Record) (levels : List ℕ) (s : IsStart r levels) where
-  -- an accepted slice of n rows done so far
+  -- a call in a run that has n rows done so far
   module _ (n : ℕ) (within : n ≤ due r) where
     -- the next unbroken scan
     pub longer : (allowance : ℕ)
         → continued (withRows r n) (scanRows (areaOf r) 0 n levels) allowance ≡ unbroken r levels (min (n + allowance) (due r))
     longer allowance =
-        let e : n + min allowance (due r - n) ≡ min (n + allowance) (due r) = omega arith in
+        let count = min allowance (due r - n) in
+        let e : n + count ≡ min (n + allowance) (due r) = omega arith in
         let z : 0 + n ≡ n = omega arith in
-        let l = sym (rows-add (areaOf r) 0 n (min allowance (due r - n)) levels) in
-        λ i. (
-          withRows r (e i),
-          eqb (e i) (due r),
-          (ap (λ m. scanRows (areaOf r) m (min allowance (due r - n)) (scanRows (areaOf r) 0 n levels)) (sym z) ∙ l
-              ∙ ap (λ m. scanRows (areaOf r) 0 m levels) e) i,
-        )
+        let from = ap (λ m. scanRows (areaOf r) m count (scanRows (areaOf r) 0 n levels)) (sym z) in
+        let joined = sym (rows-add (areaOf r) 0 n count levels) in
+        λ i. (withRows r (e i), eqb (e i) (due r), (from ∙ joined ∙ ap (λ m. scanRows (areaOf r) 0 m levels) e) i)
 
-    -- after one slice, accepted or refused
-    sliced : (allowance : ℕ)
-        → slice (unbroken r levels n) allowance
-        ≡ unbroken r levels (min (n + cond (isAccepted (unbroken r levels n) allowance) allowance 0) (due r))
-    unfolding slice
-    sliced allowance = go (isAccepted (unbroken r levels n) allowance)
+    -- after one call, accepted or refused
+    stepped : (call : Slice) → Allowed (unbroken r levels n) call
+        → next (unbroken r levels n) call
+        ≡ unbroken r levels (min (n + cond (eqb (call .number) 0) (call .allowance) 0) (due r))
+    stepped call p = go (eqb (call .number) 0) refl
       where
-        go : (t : Bool) → cond t (continued (withRows r n) (scanRows (areaOf r) 0 n levels) allowance) (unbroken r levels n)
-            ≡ unbroken r levels (min (n + cond t allowance 0) (due r))
-        go true = longer allowance
-        go false = ap (unbroken r levels) (let e : n ≡ min (n + 0) (due r) = omega arith in e)
+        accepted : call .number ≡ 0 → call .answer ≡ unbroken r levels (min (n + call .allowance) (due r))
+        accepted z =
+            let own = p .own z in
+            p .outcome .accepted z ∙ (λ i. continued (own .0 i) (own .1 i) (call .allowance)) ∙ longer (call .allowance)
 
-  cut : (n : ℕ) → n ≤ due r → (series : List ℕ)
-      → slices (unbroken r levels n) series ≡ unbroken r levels (min (n + allowed (unbroken r levels n) series) (due r))
-  unfolding slices allowed
-  cut n within [] = ap (unbroken r levels) (let e : n ≡ min (n + 0) (due r) = omega arith in e)
-  cut n within (allowance ∷ series) =
-      let a = cond (isAccepted (unbroken r levels n) allowance) allowance 0 in
+        go : (t : Bool) → eqb (call .number) 0 ≡ t
+            → cond t (call .answer) (unbroken r levels n) ≡ unbroken r levels (min (n + cond t (call .allowance) 0) (due r))
+        go true e = accepted (eqb-true (call .number) 0 e)
+        go false e = ap (unbroken r levels) (let z : n ≡ min (n + 0) (due r) = omega arith in z)
+
+  cut : (n : ℕ) → n ≤ due r → (series : List Slice) → IsSeries (unbroken r levels n) series
+      → after (unbroken r levels n) series ≡ unbroken r levels (min (n + allowed series) (due r))
+  unfolding IsSeries after allowed
+  cut n within [] p = ap (unbroken r levels) (let e : n ≡ min (n + 0) (due r) = omega arith in e)
+  cut n within (call ∷ series) p =
+      let a = cond (eqb (call .number) 0) (call .allowance) 0 in
       let m = min (n + a) (due r) in
-      let q = sliced n within allowance in
-      let rest = allowed (unbroken r levels m) series in
-      let f = ap (λ t. allowed t series) q in
-      ap (λ t. slices t series) q ∙ cut m (omega arith) series
-      ∙ ap (unbroken r levels)
-      ((let g : min (m + rest) (due r) ≡ min (n + (a + rest)) (due r) = omega arith in g)
-      ∙ ap (λ t. min (n + (a + t)) (due r)) (sym f))
+      let q = stepped n within call (p .0) in
+      let rest = cut m (omega arith) series (subst (λ t. IsSeries t series) q (p .1)) in
+      let e : min (m + allowed series) (due r) ≡ min (n + (a + allowed series)) (due r) = omega arith in
+      ap (λ t. after t series) q ∙ rest ∙ ap (unbroken r levels) e
 
   -- a start is an unbroken scan of no rows
-  begins : _≡_ {A = State} (r, isDone r, levels) (unbroken r levels 0)
+  pub begins : begun r levels ≡ unbroken r levels 0
   begins =
       let f = s .fresh in
-      λ i. (
-        record {
-          kind = r .kind;
-          width = r .width;
-          height = r .height;
-          cap = r .cap;
-          side = r .side;
-          rows = f i;
-          cells = r .cells;
-        },
-        eqb (f i) (due r),
-        sym (rows-none (areaOf r) 0 levels) i,
-      )
+      let same : r ≡ withRows r 0 = λ i. withRows r (f i) in
+      λ i. (same i, eqb (f i) (due r), sym (rows-none (areaOf r) 0 levels) i)
 
--- THE THEOREM
+-- CUTS DO NOT SHOW
 pub cuts-do-not-show : CutsDoNotShow
-cuts-do-not-show r levels started series =
+cuts-do-not-show r levels started series p =
     let s = is-start started in
     let b = begins r levels s in
-    ap (λ t. slices t series) b ∙ cut r levels s 0 (omega arith) series
-    ∙ ap (λ n. unbroken r levels (min n (due r)))
-    ((let e : 0 + allowed (unbroken r levels 0) series ≡ allowed (unbroken r levels 0) series = omega arith in e)
-    ∙ ap (λ t. allowed t series) (sym b))
+    let n = cut r levels s 0 (omega arith) series (subst (λ t. IsSeries t series) b p) in
+    let e : min (0 + allowed series) (due r) ≡ rowsWorked r series = omega arith in
+    ap (λ t. after t series) b ∙ n ∙ ap (unbroken r levels) e
 
--- in every state of a run an allowance is accepted exactly up to 8,192
-pub accepted-exactly : (r : Record) (levels : List ℕ) → Started r levels → (n : ℕ) → n ≤ due r → (allowance : ℕ)
-    → allowance ≤ 8192 → isAccepted (unbroken r levels n) allowance ≡ true
-unfolding isAccepted recordBad
-accepted-exactly r levels started n within allowance small =
-    let s = is-start started in
-    rw (
-      foreign-rows r n,
-      s .taken,
-      le-ltb (due r) n within,
-      eq-eqb (length (scanRows (areaOf r) 0 n levels)) (areaHeight r * areaWidth r) (rows-length (areaOf r) 0 n levels ∙ s .size),
-      le-ltb 8192 allowance small,
-    )
+-- and there are series: each call is answered
+answered : (r : Record) (levels : List ℕ) (allowance : ℕ)
+    → (number : ℕ) × (answer : State) × Continues r levels allowance number answer
+answered r levels allowance = go (ℕ-discrete (first (continueRefusals r levels allowance)) 0)
+  where
+    go : Dec (first (continueRefusals r levels allowance) ≡ 0)
+        → (number : ℕ) × (answer : State) × Continues r levels allowance number answer
+    go (yes z) = (0, continued r levels allowance, accepts (continued r levels allowance) z refl)
+    go (no n) = (first (continueRefusals r levels allowance), (noRecord, false, levels), refuses _ n refl)
+
+pub series-exist : SeriesExist
+unfolding IsSeries
+series-exist s [] = ([], tt, refl)
+series-exist s (allowance ∷ rest) =
+    let (number, answer, meets) = answered (s .0) (s .2) allowance in
+    let call : Slice = record { run = s .0; levels = s .2; allowance = allowance; number = number; answer = answer } in
+    let (series, is, same) = series-exist (next s call) rest in
+    (call ∷ series, (record { outcome = meets; own = λ _. (refl, refl) }, is), ap (λ l. allowance ∷ l) same)
+
+-- what is in order in every state of a run
+module _ (r : Record) (levels : List ℕ) (started : Started r levels) (n : ℕ) (within : n ≤ due r) where
+  pub sound-rows : recordBad (withRows r n) ≡ false
+  unfolding recordBad
+  sound-rows = rw (foreign-rows r n, is-start started .taken, le-ltb (due r) n within)
+
+  pub levels-fit : levelsWrong (withRows r n) (scanRows (areaOf r) 0 n levels) ≡ false
+  levels-fit =
+      rw (eq-eqb (length (scanRows (areaOf r) 0 n levels)) (areaHeight r * areaWidth r)
+      (rows-length (areaOf r) 0 n levels ∙ is-start started .size))
+
+pub accepted-exactly : AcceptedExactly
+accepted-exactly r levels started series p allowance number answer c =
+    let n = rowsWorked r series in
+    let here = cuts-do-not-show r levels started series p in
+    let judged = ap (λ (t : State). first (continueRefusals (t .0) (t .2) allowance)) here in
+    c .refusal ∙ judged ∙ rw (sound-rows r levels started n (omega arith), levels-fit r levels started n (omega arith))
 
 -- no picture before all rows are done
 pub unfinished-refused : UnfinishedRefused
@@ -115,12 +128,6 @@ unfinished-refused r e levels size out = (
       (not (eqb (length out) (r .height * rowBytes (r .width))))),
 )
   where
-    four : (a b c : Bool) → first ((1, a) ∷ (10, b) ∷ (11, c) ∷ (13, true) ∷ []) ≢ 0
-    four true b c z = absurd (omega arith)
-    four false true c z = absurd (omega arith)
-    four false false true z = absurd (omega arith)
-    four false false false z = absurd (omega arith)
-
     five : (a b c d : Bool) → first ((1, a) ∷ (8, b) ∷ (10, c) ∷ (11, d) ∷ (13, true) ∷ []) ≢ 0
     five true b c d z = absurd (omega arith)
     five false true c d z = absurd (omega arith)
@@ -128,22 +135,36 @@ unfinished-refused r e levels size out = (
     five false false false true z = absurd (omega arith)
     five false false false false z = absurd (omega arith)
 
+    four : (a b c : Bool) → first ((1, a) ∷ (10, b) ∷ (11, c) ∷ (13, true) ∷ []) ≢ 0
+    four a b c = five a false b c
+
+-- with everything else in order, the rows alone decide
+module _ (r : Record) (levels : List ℕ) (started : Started r levels) (n : ℕ) (within : n ≤ due r) (size : ℕ)
+    (small : size ≤ sizeLimit r) where
+  pub by-rows : ((out : List ℕ) → length out ≡ r .height * r .width
+      → first (collectRefusals (withRows r n) (scanRows (areaOf r) 0 n levels) out) ≡ cond (eqb n (due r)) 0 13) ×
+      ((out : List ℕ) → length out ≡ r .height * rowBytes (r .width)
+      → first (thresholdRefusals (withRows r n) (scanRows (areaOf r) 0 n levels) size out) ≡ cond (eqb n (due r)) 0 13)
+  by-rows =
+      let a = sound-rows r levels started n within in
+      let b = levels-fit r levels started n within in (
+        (λ out q. rw (a, b, eq-eqb (length out) (r .height * r .width) q) (last (eqb n (due r)))),
+        (λ out q. rw (a, le-ltb (sizeLimit r) size small, b, eq-eqb (length out) (r .height * rowBytes (r .width)) q)
+            (last (eqb n (due r)))),
+      )
+    where
+      last : (t : Bool) → first ((13, not t) ∷ []) ≡ cond t 0 13
+      last true = refl
+      last false = refl
+
 pub none-released : NoneReleased
-unfolding recordBad
-none-released r levels started n within size small =
-    let s = is-start started in
-    let l = eq-eqb (length (scanRows (areaOf r) 0 n levels)) (areaHeight r * areaWidth r)
-    (rows-length (areaOf r) 0 n levels ∙ s .size) in
+none-released r levels started n l size small =
+    let p = by-rows r levels started n (omega arith) size small in
     let d = ne-eqb n (due r) (λ e. absurd (omega arith)) in
-    let b = le-ltb (due r) n (let h : n ≤ due r = omega arith in h) in (
-      (λ out q. rw (foreign-rows r n, s .taken, b, l, eq-eqb (length out) (r .height * r .width) q, d)),
-      (λ out q. rw (
-        foreign-rows r n,
-        s .taken,
-        b,
-        le-ltb (sizeLimit r) size small,
-        l,
-        eq-eqb (length out) (r .height * rowBytes (r .width)) q,
-        d,
-      )),
-    )
+    ((λ out q. p .0 out q ∙ rw d), (λ out q. p .1 out q ∙ rw d))
+
+pub released : Released
+released r levels started size small =
+    let p = by-rows r levels started (due r) (omega arith) size small in
+    let d = eq-eqb (due r) (due r) refl in
+    ((λ out q. p .0 out q ∙ rw d), (λ out q. p .1 out q ∙ rw d))

@@ -15,6 +15,7 @@ pub mod PictureAnswers
 -- the demands
 pub mod Started
 pub mod StartLevels
+pub mod SameStarts
 pub mod Demand2
 pub mod Demand3
 pub mod StarredRuns

@@ -21,7 +21,8 @@ use Rattle.element.proofs.ElementLaws.{side-bounds}
 use Rattle.sheet.specs.Sheets.{isSideOut}
 use Rattle.sheet.proofs.FrameLaws.{side-in}
 use Rattle.run.specs.declared.Record.{Record}
-use Rattle.run.specs.Records.{marginOf, margin, areaWidth, areaHeight, due, outside, anyOutside, elementForeign, capForeign, isErosion, dilationKind}
+use Rattle.run.specs.Records.{marginOf, margin, areaWidth, areaHeight, due, outside, anyOutside, elementForeign, capForeign}
+use Rattle.run.specs.Records.{isErosion, dilationKind}
 use Rattle.run.specs.Records.{foreign, recordBad}
 
 -- places of the seven

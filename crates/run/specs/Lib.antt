@@ -3,6 +3,7 @@ pub mod Starting
 pub mod Continuing
 pub mod Pictures
 pub mod Patches
+pub mod SameStarts
 pub mod Series
 pub mod Demand2
 pub mod StarredRuns

@@ -69,7 +69,8 @@ elementForeign side cells = not (isSide side) || anyAbove 1 cells || anyOutside 
 
 unfoldable pub capForeign : Record → Bool
 capForeign r = cond (isErosion r) (not (eqb (r .cap) 0))
-    (not (eqb (r .kind) dilationKind) || ltb highestCap (r .cap) || ltb longestSide (areaWidth r) || ltb longestSide (areaHeight r))
+    (not (eqb (r .kind) dilationKind) || ltb highestCap (r .cap) || ltb longestSide (areaWidth r) ||
+    ltb longestSide (areaHeight r))
 
 unfoldable pub foreign : Record → Bool
 foreign r = isSideOut (r .width) || isSideOut (r .height) || elementForeign (r .side) (r .cells) || capForeign r

@@ -1,12 +1,12 @@
--- Demand 3: a run that a batch system cuts into slices, a series of allowances, each with the record last returned and the run's
--- own levels.
+-- Demand 3: a run that a batch system cuts into slices, by calls of continue with their outcomes.
 use Prim.Native.Nat.{ℕ, _+_, _*_, _≤_, _<_, min}
 use mathlib.Core.Path.{_≡_}
 use mathlib.Core.Logic.{_≢_}
 use mathlib.Core.Bool.{Bool, false, cond}
-use mathlib.Core.List.{List, [], _∷_}
-use lib.Dec.{eqb}
+use mathlib.Core.List.{List, [], _∷_, map}
+use lib.Dec.{eqb, ltb}
 use lib.ListN.{length}
+use Rattle.basics.specs.Limits.{mostRows}
 use Rattle.basics.specs.Refusals.{first}
 use Rattle.sheet.specs.Sheets.{rowBytes}
 use Rattle.scan.specs.Scan.{scanRows}
@@ -14,46 +14,81 @@ use Rattle.run.specs.declared.Record.{Record}
 use Rattle.run.specs.Records.{areaOf, due}
 use Rattle.run.specs.Starting.{StartsErosion, StartsDilation}
 use Rattle.run.specs.Pictures.{sizeLimit, collectRefusals, thresholdRefusals}
-use Rattle.run.specs.Continuing.{continueRefusals, continued, withRows, isDone}
+use Rattle.run.specs.Continuing.{Continues, withRows, isDone}
 
 -- a record and levels that an accepted start gives
 pub data Started : Record → List ℕ → Type 0 where
   erosion : (width height : ℕ) (sheet : List ℕ) (side : ℕ) (bytes lent : List ℕ) {r : Record} {levels : List ℕ}
       → StartsErosion width height sheet side bytes lent 0 (r, levels) → Started r levels
-  dilation : (width height : ℕ) (sheet : List ℕ) (side : ℕ) (bytes : List ℕ) (cap : ℕ)
-      (lent : List ℕ) {r : Record} {levels : List ℕ} → StartsDilation width height sheet side bytes cap lent 0 (r, levels)
-      → Started r levels
+  dilation : (width height : ℕ) (sheet : List ℕ) (side : ℕ) (bytes : List ℕ) (cap : ℕ) (lent : List ℕ) {r : Record}
+      {levels : List ℕ} → StartsDilation width height sheet side bytes cap lent 0 (r, levels) → Started r levels
 
--- what a run has: its record, whether all is done, its levels
+-- what a run has: its record, whether all rows are done, its levels
 abbrev pub State : Type 0
 State = Record × Bool × List ℕ
 
-unfoldable pub isAccepted : State → ℕ → Bool
-isAccepted s allowance = eqb (first (continueRefusals (s .0) (s .2) allowance)) 0
+abbrev pub begun : Record → List ℕ → State
+begun r levels = (r, isDone r, levels)
 
--- one continue: the answer of an accepted one; after a refusal the same again
-unfoldable pub slice : State → ℕ → State
-slice s allowance = cond (isAccepted s allowance) (continued (s .0) (s .2) allowance) s
+-- a call of continue: the record and the levels that it got, its allowance, and its outcome: the number and what it answered
+pub record Slice : Type 0 where
+  pub run : Record
+  pub levels : List ℕ
+  pub allowance : ℕ
+  pub number : ℕ
+  pub answer : State
 
-unfoldable pub slices : State → List ℕ → State
-slices s [] = s
-slices s (allowance ∷ rest) = slices (slice s allowance) rest
+-- the run after a call: what an accepted one answered; after a refusal the same again
+abbrev pub next : State → Slice → State
+next s call = cond (eqb (call .number) 0) (call .answer) s
+
+-- The premises: the outcome is one that the contract allows; an accepted call got the record last returned and the run's own
+-- levels. A refused one may have got anything.
+pub record Allowed (s : State) (call : Slice) : Type 0 where
+  pub outcome : Continues (call .run) (call .levels) (call .allowance) (call .number) (call .answer)
+  pub own : call .number ≡ 0 → (call .run ≡ s .0) × (call .levels ≡ s .2)
+
+unfoldable pub IsSeries : State → List Slice → Type 0
+IsSeries s [] = Unit {0}
+IsSeries s (call ∷ rest) = Allowed s call × IsSeries (next s call) rest
+
+-- the run after all calls
+unfoldable pub after : State → List Slice → State
+after s [] = s
+after s (call ∷ rest) = after (next s call) rest
 
 -- what the accepted allowances sum to
-unfoldable pub allowed : State → List ℕ → ℕ
-allowed s [] = 0
-allowed s (allowance ∷ rest) = cond (isAccepted s allowance) allowance 0 + allowed (slice s allowance) rest
+unfoldable pub allowed : List Slice → ℕ
+allowed [] = 0
+allowed (call ∷ rest) = cond (eqb (call .number) 0) (call .allowance) 0 + allowed rest
 
 -- one unbroken scan of n rows
 abbrev pub unbroken : Record → List ℕ → ℕ → State
 unbroken r levels n = (withRows r n, eqb n (due r), scanRows (areaOf r) 0 n levels)
 
--- DEMAND 3: whatever the series, the run is where one unbroken scan of as many rows as the accepted allowances sum to, at most
--- those due, would be
+-- the rows that a series works: as many as its accepted allowances sum to, at most those due
+abbrev pub rowsWorked : Record → List Slice → ℕ
+rowsWorked r series = min (allowed series) (due r)
+
+-- there are such series: whatever allowances are asked for, one after the other
+abbrev pub SeriesExist : Type 0
+SeriesExist =
+    (s : State) (allowances : List ℕ)
+    → (series : List Slice) × IsSeries s series × (map (λ call. call .allowance) series ≡ allowances)
+
+-- whatever the series, the run is where one unbroken scan of so many rows would be
 abbrev pub CutsDoNotShow : Type 0
 CutsDoNotShow =
-    (r : Record) (levels : List ℕ) → Started r levels → (series : List ℕ) →
-    slices (r, isDone r, levels) series ≡ unbroken r levels (min (allowed (r, isDone r, levels) series) (due r))
+    (r : Record) (levels : List ℕ) → Started r levels → (series : List Slice) → IsSeries (begun r levels) series →
+    after (begun r levels) series ≡ unbroken r levels (rowsWorked r series)
+
+-- a call with the run's own record and levels is accepted exactly up to an allowance of 8,192, and above it refused with 12
+abbrev pub AcceptedExactly : Type 0
+AcceptedExactly =
+    (r : Record) (levels : List ℕ) → Started r levels → (series : List Slice) → IsSeries (begun r levels) series →
+    (allowance number : ℕ) (answer : State) →
+    Continues (after (begun r levels) series .0) (after (begun r levels) series .2) allowance number answer →
+    number ≡ cond (ltb mostRows allowance) 12 0
 
 -- before all rows are done no picture is released: collecting and thresholding refuse, and with everything else in order they
 -- give 13
@@ -69,3 +104,12 @@ abbrev pub UnfinishedRefused : Type 0
 UnfinishedRefused =
     (r : Record) → isDone r ≡ false → (levels : List ℕ) (size : ℕ) (out : List ℕ) →
     (first (collectRefusals r levels out) ≢ 0) × (first (thresholdRefusals r levels size out) ≢ 0)
+
+-- once they are, it is: with buffers of the right lengths and a size in its range neither refuses
+abbrev pub Released : Type 0
+Released =
+    (r : Record) (levels : List ℕ) → Started r levels → (size : ℕ) → size ≤ sizeLimit r →
+    ((out : List ℕ) → length out ≡ r .height * r .width
+    → first (collectRefusals (withRows r (due r)) (scanRows (areaOf r) 0 (due r) levels) out) ≡ 0) ×
+    ((out : List ℕ) → length out ≡ r .height * rowBytes (r .width)
+    → first (thresholdRefusals (withRows r (due r)) (scanRows (areaOf r) 0 (due r) levels) size out) ≡ 0)

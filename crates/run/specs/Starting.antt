@@ -64,4 +64,7 @@ dilationRefusals width height sheet side bytes cap levels =
 abbrev pub StartsDilation : ℕ → ℕ → List ℕ → ℕ → List ℕ → ℕ → List ℕ → ℕ → Record × List ℕ → Type 0
 StartsDilation width height sheet side bytes cap levels =
     Answers (dilationRefusals width height sheet side bytes cap levels) (noRecord, levels)
-    (λ after. after ≡ (startRecord dilationKind width height cap side bytes, startLevels width height (marginOf cap side) sheet 1 none))
+    (λ after. after ≡ (
+      startRecord dilationKind width height cap side bytes,
+      startLevels width height (marginOf cap side) sheet 1 none,
+    ))
