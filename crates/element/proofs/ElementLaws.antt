@@ -78,6 +78,13 @@ square-small side l = mul-le-mul l l
 pub square-entry : (side i j : ℕ) → isSide side ≡ true → i < side → j < side → (i * side + j < side * side) × (side * side ≤ 49)
 square-entry side i j e a b = (entry-below side side i j a b, square-small side (side-bounds side e .1 .0))
 
+pub centre-entry : (side : ℕ) → isSide side ≡ true
+    → (1 ≤ side) × (reach side * side + reach side < side * side) × (side * side ≤ 49)
+centre-entry side e =
+    let b = side-bounds side e in
+    let s = square-entry side (reach side) (reach side) e (omega arith) (omega arith) in
+    (b .0, s .0, s .1)
+
 -- which places of the seven hold the square
 module _ (side p : ℕ) where
   pub held-low : p < 3 - reach side → isHeld side p ≡ false

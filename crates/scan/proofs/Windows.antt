@@ -2,7 +2,7 @@
 -- rows before it stay.
 -- The partners that are met lie in the part or beyond the whole, so they read the same; then the columns go one by one.
 use Prim.Native.Nat.{ℕ, zero, suc, _+_, _-_, _*_, _/_, _%_, _≤_, _<_, min}
-use native.Mathlib.Nat.{add-mul, zero-mul, mul-le-mul, mul-le-mul-right}
+use native.Mathlib.Nat.{add-mul, zero-mul, mul-le-mul-right}
 use native.Mathlib.Decide.{ℕ-discrete, decLt}
 use native.Mathlib.Omega.{arith}
 use mathlib.Core.Path.{_≡_, refl, sym, ap, ap₂, _∙_}
@@ -13,7 +13,6 @@ use lib.Dec.{eqb, leb, ltb}
 use lib.ListN.{length, getD, take, drop, set, take-append-drop, length-take, length-drop, drop-of-length-le}
 use lib.Seq.{length-take-le, take-all, getD-append-add}
 use borrow.Author.Tests.{le-leb, lt-ltb, le-ltb, eq-eqb, ne-eqb}
-use Rattle.basics.specs.Limits.{longestSide}
 use Rattle.row.specs.RowRule.{Area, none, more, cellNumber, within, levelAt, partner, least, firstMet, lowered, pointRule, place}
 use Rattle.row.specs.RowRule.{columns, rowRule}
 use borrow.Rule.Slice.PartMut.{putMid}
@@ -187,12 +186,6 @@ down-within reach row cells r = record { met = λ k a b c. go k (r .above k (ome
     go : (k : ℕ) → 3 ≤ k / 7 + reach → Dec (row < reach) → (row - min row reach ≡ 0) ⊎ (row - min row reach + 3 ≤ row + k / 7)
     go k h (yes l) = inl (omega arith)
     go k h (no n) = inr (omega arith)
-
--- small enough for a machine's word
-pub place-small : (width height start : ℕ) (levels : List ℕ) → Lent width height levels → start < height
-    → start * width ≤ longestSide * longestSide
-place-small width height start levels lent l =
-    mul-le-mul (let h = lent .high in let s : start ≤ longestSide = omega arith in s) (lent .wide .1)
 
 -- what was lent from a place on comes back in its place
 pub lent-part : (at : ℕ) (levels after : List ℕ) (f : List ℕ → List ℕ) → after ≡ f (take (length levels - at) (drop at levels))

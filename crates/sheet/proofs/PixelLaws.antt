@@ -1,8 +1,7 @@
--- Pixels: where they stand, that a packed sheet has the pixels it was packed from, and that nothing but its pixels is in it.
+-- Pixels: that a packed sheet has the pixels it was packed from, and that nothing but its pixels is in it.
 -- A packed byte is a sum of eight bits by their weights, so each bit is found by dividing by its weight; omega does each of the
 -- eight places.
 use Prim.Native.Nat.{ℕ, zero, suc, _+_, _*_, _/_, _%_, _≤_, _<_}
-use native.Mathlib.Nat.{mul-le-mul}
 use native.Mathlib.Omega.{arith}
 use mathlib.Core.Path.{_≡_, refl, sym, ap, _∙_}
 use mathlib.Core.Bool.{Bool, true, false, cond}
@@ -10,16 +9,11 @@ use mathlib.Core.List.{List}
 use lib.Dec.{ltb}
 use lib.ListN.{length}
 use borrow.Author.Tests.{lt-ltb, ltb-true}
-use Rattle.basics.specs.Limits.{longestSide}
 use Rattle.basics.proofs.TableLaws.{length-raster, getD-raster, raster-same}
 use Rattle.grid.specs.Sets.{_≈_}
 use Rattle.grid.specs.Figures.{figure}
 use Rattle.grid.proofs.FigureLaws.{figure-same}
 use Rattle.sheet.specs.Sheets.{rowBytes, bit, pixel, foreground, packedByte, packed}
-
--- and few bytes stand before it
-pub place-small : (width row : ℕ) → width ≤ longestSide → row < longestSide → row * rowBytes width ≤ longestSide * 512
-place-small width row a b = mul-le-mul (let l : row ≤ longestSide = omega arith in l) (let l : rowBytes width ≤ 512 = omega arith in l)
 
 pub pixel-binary : (width : ℕ) (bytes : List ℕ) (row col : ℕ) → pixel width bytes row col ≤ 1
 unfolding pixel

@@ -14,17 +14,10 @@ Inv-loop side bytes out₀ row₀ out row = Filling 7 (λ k. table 7 (centredCel
 abbrev μ-loop : tie.MeasureT-loop
 μ-loop side bytes out₀ row₀ out row = 7 - row
 
-loop-holds : tie.Need-loop-holds Inv-loop μ-loop
-loop-holds c = filling-start _ _ _ refl
-
-loop-again : tie.Need-loop-again Inv-loop μ-loop
-loop-again c = filling-turn 7 _ _ _ _ (c .before .before .loop .inv) (c .before .loop-test .taken) (c .centred-row .ensures)
-
-returns : tie.Need-returns Inv-loop μ-loop
-unfolding centred sevenBySeven
-returns c = filling-end 7 _ _ _ (c .before .loop .inv) (c .loop-test .left)
-
 pub cells-of-spec : {M : Type 1} → statement M
+unfolding centred sevenBySeven
 cells-of-spec =
-    tie.close (tie.spec Inv-loop μ-loop loop-holds (λ c κs. search needs) (λ c. search needs) (λ c. search needs)
-    (λ c. search needs) (λ c. search needs) loop-again returns)
+    tie.close (tie.spec Inv-loop μ-loop (λ c. filling-start _ _ _ refl) (λ c κs. search needs) (λ c. search needs) (λ c. search needs)
+    (λ c. search needs) (λ c. search needs)
+    (λ c. filling-turn 7 _ _ _ _ (c .before .before .loop .inv) (c .before .loop-test .taken) (c .centred-row .ensures))
+    (λ c. filling-end 7 _ _ _ (c .before .loop .inv) (c .loop-test .left)))

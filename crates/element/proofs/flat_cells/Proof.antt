@@ -14,17 +14,10 @@ Inv-loop cells out₀ k₀ out k = Filling 49 (λ k. cellAt cells (k / 7) (k % 7
 abbrev μ-loop : tie.MeasureT-loop
 μ-loop cells out₀ k₀ out k = 49 - k
 
-loop-holds : tie.Need-loop-holds Inv-loop μ-loop
-loop-holds c = filling-start _ _ _ refl
-
-loop-again : tie.Need-loop-again Inv-loop μ-loop
-loop-again c = filling-turn 49 _ _ _ _ (c .before .before .loop .inv) (c .before .loop-test .taken) refl
-
-returns : tie.Need-returns Inv-loop μ-loop
-unfolding flat raster
-returns c = filling-end 49 _ _ _ (c .before .loop .inv) (c .loop-test .left)
-
 pub flat-cells-spec : {M : Type 1} → statement M
+unfolding flat raster
 flat-cells-spec =
-    tie.close (tie.spec Inv-loop μ-loop loop-holds (λ c. search needs) (λ c. search needs) (λ c. search needs)
-    (λ c. search needs) (λ c. search needs) (λ c. search needs) loop-again returns)
+    tie.close (tie.spec Inv-loop μ-loop (λ c. filling-start _ _ _ refl) (λ c. search needs) (λ c. search needs) (λ c. search needs)
+    (λ c. search needs) (λ c. search needs) (λ c. search needs)
+    (λ c. filling-turn 49 _ _ _ _ (c .before .before .loop .inv) (c .before .loop-test .taken) refl)
+    (λ c. filling-end 49 _ _ _ (c .before .loop .inv) (c .loop-test .left)))

@@ -14,19 +14,10 @@ Inv-loop cells out₀ row₀ out row = Filling 7 (λ k. table 7 (λ col. cellAt 
 abbrev μ-loop : tie.MeasureT-loop
 μ-loop cells out₀ row₀ out row = 7 - row
 
-loop-holds : tie.Need-loop-holds Inv-loop μ-loop
-loop-holds c = filling-start _ _ _ refl
-
-loop-again : tie.Need-loop-again Inv-loop μ-loop
-loop-again c = filling-turn 7 _ _ _ _ (c .before .before .before .loop .inv) (c .before .before .loop-test .taken)
-    (c .turned-row .ensures)
-
-returns : tie.Need-returns Inv-loop μ-loop
-unfolding turned sevenBySeven
-returns c = filling-end 7 _ _ _ (c .before .loop .inv) (c .loop-test .left)
-
 pub turned-cells-spec : {M : Type 1} → statement M
+unfolding turned sevenBySeven
 turned-cells-spec =
-    tie.close (tie.spec Inv-loop μ-loop loop-holds (λ c. search needs) (λ c. search needs) (λ c. search needs)
-    (λ c κs. search needs) (λ c. search needs) (λ c. search needs) (λ c. search needs) (λ c. search needs) loop-again
-    returns)
+    tie.close (tie.spec Inv-loop μ-loop (λ c. filling-start _ _ _ refl) (λ c. search needs) (λ c. search needs) (λ c. search needs)
+    (λ c κs. search needs) (λ c. search needs) (λ c. search needs) (λ c. search needs) (λ c. search needs)
+    (λ c. filling-turn 7 _ _ _ _ (c .before .before .before .loop .inv) (c .before .before .loop-test .taken) (c .turned-row .ensures))
+    (λ c. filling-end 7 _ _ _ (c .before .loop .inv) (c .loop-test .left)))

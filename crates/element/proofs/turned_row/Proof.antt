@@ -13,16 +13,9 @@ Inv-loop row out₀ col₀ out col = Filling 7 (λ k. getD row (6 - k) 0) col ou
 abbrev μ-loop : tie.MeasureT-loop
 μ-loop row out₀ col₀ out col = 7 - col
 
-loop-holds : tie.Need-loop-holds Inv-loop μ-loop
-loop-holds c = filling-start _ _ _ refl
-
-loop-again : tie.Need-loop-again Inv-loop μ-loop
-loop-again c = filling-turn 7 _ _ _ _ (c .before .loop .inv) (c .loop-test .taken) refl
-
-returns : tie.Need-returns Inv-loop μ-loop
-returns c = filling-end 7 _ _ _ (c .before .loop .inv) (c .loop-test .left)
-
 pub turned-row-spec : {M : Type 1} → statement M
 turned-row-spec =
-    tie.close (tie.spec Inv-loop μ-loop loop-holds (λ c. search needs) (λ c. search needs) (λ c. search needs)
-    (λ c. search needs) (λ c. search needs) loop-again returns)
+    tie.close (tie.spec Inv-loop μ-loop (λ c. filling-start _ _ _ refl) (λ c. search needs) (λ c. search needs) (λ c. search needs)
+    (λ c. search needs) (λ c. search needs)
+    (λ c. filling-turn 7 _ _ _ _ (c .before .loop .inv) (c .loop-test .taken) refl)
+    (λ c. filling-end 7 _ _ _ (c .before .loop .inv) (c .loop-test .left)))

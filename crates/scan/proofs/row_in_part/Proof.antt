@@ -2,52 +2,27 @@
 use borrow.Rule.Slice.PartMut.{same-len-mid}
 use Rattle.row.specs.RowRule.{rowRule}
 use Rattle.scan.specs.Scan.{area}
-use Rattle.scan.proofs.Windows.{start-place, part-size, place-small, row-of-part, lent-part}
+use Rattle.scan.proofs.Windows.{start-place, part-size, row-of-part, lent-part}
 use borrow.Author.Needs.{needs}
 use native.Mathlib.Omega.{arith}
-use Prim.Native.Nat.{_*_, _-_, _<_}
+use Prim.Native.Nat.{_*_, _-_, _≤_, _<_}
 use mathlib.Core.Path.{sym, _∙_}
 use lib.ListN.{length}
 use Rattle.scan.proofs.row_in_part.Statement.{statement}
 use Rattle.scan.proofs.row_in_part.Tie as tie
 
-mul-at : tie.Need-mul-at
-mul-at c =
-    let args = c .before .args in
-    let s = place-small (args .width) (args .height) (args .start) (args .levels .now) (c .before .pre .0)
-    (let l : args .start < args .height = omega arith in l) in
-    omega arith
+-- the part begins at a row of the area, and so in the levels
+above : (c : tie.Start) → c .args .start < c .args .height
+above c = omega arith
 
-mul-row-rule : tie.Need-mul-row-rule
-mul-row-rule c =
-    let args = c .before .args in
-    let s = place-small (args .width) (args .height) (args .start) (args .levels .now) (c .before .pre .0)
-    (let l : args .start < args .height = omega arith in l) in
-    omega arith
-
-sub-row-rule : tie.Need-sub-row-rule
-sub-row-rule c =
-    let args = c .before .args in
-    let s = start-place (args .width) (args .height) (args .start) (args .levels .now) (c .before .pre .0)
-    (let l : args .start < args .height = omega arith in l) in
-    omega arith
-
-part-row-rule-start : tie.Need-part-row-rule-start
-part-row-rule-start c =
-    let args = c .before .args in
-    let s = start-place (args .width) (args .height) (args .start) (args .levels .now) (c .before .pre .0)
-    (let l : args .start < args .height = omega arith in l) in
-    omega arith
+in-levels : (c : tie.Start) → c .args .start * c .args .width ≤ length (c .args .levels .now)
+in-levels c = start-place _ (c .args .height) _ _ (c .pre .0) (above c)
 
 row-rule-requires : tie.Need-row-rule-requires
 row-rule-requires c κs =
-    let pre = c .before .before .pre in
-    let args = c .before .before .args in
-    let h = pre .0 .high in (
-      part-size (args .width) (args .height) (args .start) (args .levels .now) (pre .0)
-          (let l : args .start < args .height = omega arith in l),
-      (omega arith, (pre .0 .wide .1, omega arith)),
-    )
+    let s = c .before .before in
+    let h = s .pre .0 .high in
+    (part-size _ _ _ _ (s .pre .0) (above s), (omega arith, (s .pre .0 .wide .1, omega arith)))
 
 same-length : tie.Need-same-length
 same-length c =
@@ -69,5 +44,6 @@ returns c =
 
 pub row-in-part-spec : {M : Type 1} → statement M
 row-in-part-spec =
-    tie.close (tie.spec mul-at mul-row-rule sub-row-rule part-row-rule-start (λ c. search needs) (λ c. search needs)
-    (λ c. search needs) row-rule-requires same-length returns)
+    tie.close (tie.spec (λ c. omega (arith, in-levels (c .before))) (λ c. omega (arith, in-levels (c .before)))
+    (λ c. omega (arith, in-levels (c .before))) (λ c. omega (arith, in-levels (c .before))) (λ c. search needs)
+    (λ c. search needs) (λ c. search needs) row-rule-requires same-length returns)
