@@ -6,9 +6,9 @@ fn main() {
     let mut input = io::large_buffer();
     let length = io::read_full(STDIN_FILENO, &mut input);
     let mut sheet = io::large_buffer();
-    let mut levels = [0u16; 16384];
-    let mut collected = [0u16; 16384];
-    let mut out = [0u8; 98432];
+    let mut levels = [0u16; printing::MOST_PIXELS];
+    let mut collected = [0u16; printing::MOST_PIXELS];
+    let mut out = [0u8; printing::TEXT_ROOM];
     let size = printing::print_erosion(
         &input[..length],
         &mut sheet,

@@ -16,7 +16,7 @@ use Rattle.run.specs.declared.Record.{Record}
 use Rattle.run.specs.Records.{recordBad}
 use Rattle.run.specs.Continuing.{isDone}
 use Rattle.pbm.specs.Header.{Header, broken, whole, beginsP4, header}
-use Rattle.pbm.specs.Pbm.{pbmText, isBroken, frameOf, rasterOf, rasterRefusals, writeRefusals, ReadsPbm, WritesPbm}
+use Rattle.pbm.specs.Pbm.{pbmText, isBroken, frameOf, bodyRefusals, rasterRefusals, writeRefusals, ReadsPbm, WritesPbm}
 use Rattle.pgm.specs.WritePgm.{maximum, picture, pgmRefusals, WritesPgm}
 use Rattle.harness.specs.Boundary.{recordOf, holdsNoRecord, answerRefusal, atLatest}
 use Rattle.harness.specs.Files.{pictureRefusals, framed, writesRefusals, ReadsSheet, WritesSheet, WritesPicture}
@@ -59,8 +59,8 @@ module _ (file out frame : List ℕ) where
     read-other z = refuses 11 (λ q. absurd (omega arith))
         (rw (ne-eqb (length frame) 2 a) (go (beginsP4 file) (header file) (sym (p .refusal) ∙ z)))
       where
-        go : (b : Bool) (h : Header) → first (((21, not b) ∷ (22, isBroken h) ∷ frameOf h) ++ rasterOf h room) ≡ 0
-            → 11 ≡ first ((((21, not b) ∷ (22, isBroken h) ∷ frameOf h) ++ rasterOf h out) ++ (11, true) ∷ [])
+        go : (b : Bool) (h : Header) → first (((21, not b) ∷ (22, isBroken h) ∷ frameOf h) ++ bodyRefusals h room) ≡ 0
+            → 11 ≡ first ((((21, not b) ∷ (22, isBroken h) ∷ frameOf h) ++ bodyRefusals h out) ++ (11, true) ∷ [])
         go true broken e = absurd (omega arith)
         go false broken e = absurd (omega arith)
         go b (whole w l raster) e =
@@ -69,8 +69,8 @@ module _ (file out frame : List ℕ) where
     pub read-other-refuses : n ≢ 0 → ReadsSheet file out frame n (out, frame)
     read-other-refuses z = refuses n z (rw (ne-eqb (length frame) 2 a) (go (beginsP4 file) (header file) (p .refusal)))
       where
-        go : (b : Bool) (h : Header) → n ≡ first (((21, not b) ∷ (22, isBroken h) ∷ frameOf h) ++ rasterOf h room)
-            → n ≡ first ((((21, not b) ∷ (22, isBroken h) ∷ frameOf h) ++ rasterOf h out) ++ (11, true) ∷ [])
+        go : (b : Bool) (h : Header) → n ≡ first (((21, not b) ∷ (22, isBroken h) ∷ frameOf h) ++ bodyRefusals h room)
+            → n ≡ first ((((21, not b) ∷ (22, isBroken h) ∷ frameOf h) ++ bodyRefusals h out) ++ (11, true) ∷ [])
         go true broken e = e
         go false broken e = e
         go b (whole w l raster) e =
@@ -79,8 +79,8 @@ module _ (file out frame : List ℕ) where
 
   module _ (a : length frame ≡ 2) (n width height : ℕ) (after : List ℕ) (p : ReadsPbm file out n width height after) where
     fits : (h : Header) (b : Bool)
-        → first ((((21, not b) ∷ (22, isBroken h) ∷ frameOf h) ++ rasterOf h out) ++ answerRefusal 2 frame ∷ [])
-        ≡ first (((21, not b) ∷ (22, isBroken h) ∷ frameOf h) ++ rasterOf h out)
+        → first ((((21, not b) ∷ (22, isBroken h) ∷ frameOf h) ++ bodyRefusals h out) ++ answerRefusal 2 frame ∷ [])
+        ≡ first (((21, not b) ∷ (22, isBroken h) ∷ frameOf h) ++ bodyRefusals h out)
     fits broken b = answer-fits (judged b broken) tt 2 frame a
     fits (whole w l raster) b =
         answer-fits (judged b (whole w l raster) ++ (11, ltb (length out) (length raster)) ∷ []) tt 2 frame a

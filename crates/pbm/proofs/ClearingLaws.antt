@@ -23,7 +23,7 @@ abbrev pub packedAt : ℕ → List ℕ → ℕ → ℕ
 packedAt width bytes k = packedByte width (pixel width bytes (k / rowBytes width)) (k % rowBytes width)
 
 -- what the loop works with, and what it keeps
-pub record Given (width height : ℕ) (bytes out : List ℕ) (row count weight : ℕ) : Type 0 where
+pub record Counts (width height : ℕ) (bytes out : List ℕ) (row count weight : ℕ) : Type 0 where
   pub row-is : row ≡ rowBytes width
   pub count-is : count ≡ height * rowBytes width
   pub weight-is : weight ≡ 2 ^ (rowBytes width * 8 - width)
@@ -32,7 +32,7 @@ pub record Given (width height : ℕ) (bytes out : List ℕ) (row count weight :
 
 module _ {width height row weight : ℕ} (bytes out : List ℕ) where
   pub ready : row ≡ rowBytes width → weight ≡ 2 ^ (rowBytes width * 8 - width) → height * rowBytes width ≤ length bytes
-      → height * rowBytes width ≤ length out → Given width height bytes out row (height * row) weight
+      → height * rowBytes width ≤ length out → Counts width height bytes out row (height * row) weight
   ready r w a b = let e = ap (λ n. height * n) r in
       record { row-is = r; count-is = e; weight-is = w; there = omega arith; room = omega arith }
 
@@ -44,7 +44,7 @@ weight-shifted width row e =
     m ∙ (let o : 1 * 2 ^ (row * 8 - width) ≡ 2 ^ (row * 8 - width) = omega arith in o) ∙ ap (λ n. 2 ^ (n * 8 - width)) e
 
 pub record Clearing (width height : ℕ) (bytes out : List ℕ) (row count weight left k : ℕ) (now : List ℕ) : Type 0 where
-  pub given : Given width height bytes out row count weight
+  pub given : Counts width height bytes out row count weight
   pub below : k ≤ count
   pub to-come : left ≡ rowBytes width - k % rowBytes width
   pub front : now ≡ filled k (packedAt width bytes) out
@@ -72,7 +72,7 @@ filled-begun width height bytes out =
     (sym (length-table (packedAt width bytes) (height * rowBytes width)))
 
 pub clearing-start : {width height : ℕ} {bytes out : List ℕ} {row count weight : ℕ}
-    → Given width height bytes out row count weight → Clearing width height bytes out row count weight row 0 out
+    → Counts width height bytes out row count weight → Clearing width height bytes out row count weight row 0 out
 clearing-start {width} {height} {bytes} {out} g =
     let z = zero-mod (rowBytes width) in
     let r = g .row-is in

@@ -10,12 +10,13 @@ use lib.Dec.{eqb}
 use lib.ListN.{length, getD, drop, length-drop}
 use lib.Seq.{drop-drop}
 use borrow.Author.Tests.{lt-ltb, eq-eqb, ne-eqb}
+use Rattle.basics.specs.Limits.{longestSide}
 use Rattle.basics.specs.Refusals.{first}
 use Rattle.sheet.specs.Sheets.{isSideOut, frameRefusals}
 use Rattle.sheet.proofs.FrameLaws.{frame-sides}
 use Rattle.decimal.specs.Numbers.{isDigit, value, digitRun}
 use Rattle.pbm.specs.Header.{isWhite, whiteRun, afterWhite, isNone, missing, number, field, beginsP4, broken, whole, header}
-use Rattle.pbm.specs.Steps.{limit, FieldRead, HeaderRead}
+use Rattle.pbm.specs.Steps.{amountEnd, FieldRead, HeaderRead}
 use Rattle.pbm.proofs.RunLaws.{run-short, run-none, digit-run}
 
 -- "P4"
@@ -84,7 +85,7 @@ module _ (file : List ℕ) (at start : ℕ) (e : start ≡ at + length (whiteRun
         let r = ap length (digit-run (drop start file)) in omega arith
 
     pub field-found : (amount : ℕ) → start ≤ length file → start ≢ at → next ≢ start
-        → amount ≡ min (value (digitRun (drop start file))) limit → FieldRead file at true amount next
+        → amount ≡ min (value (digitRun (drop start file))) amountEnd → FieldRead file at true amount next
     field-found amount l n m e =
         record {
           within = next-within l;
@@ -119,16 +120,16 @@ module _ (file : List ℕ) (p : beginsP4 file ≡ true) where
       header-whole g = rw (p, e, f, g)
 
 -- a side that was cut is out as it was
-side-far : (side : ℕ) → 4096 < side → isSideOut side ≡ true
+side-far : (side : ℕ) → longestSide < side → isSideOut side ≡ true
 unfolding isSideOut
-side-far side l = rw (ne-eqb side 0 (λ z. omega arith), lt-ltb 4096 side l)
+side-far side l = rw (ne-eqb side 0 (λ z. omega arith), lt-ltb longestSide side l)
 
-side-cut : (side : ℕ) → isSideOut (min side limit) ≡ isSideOut side
-side-cut side = go (decLt limit side)
+side-cut : (side : ℕ) → isSideOut (min side amountEnd) ≡ isSideOut side
+side-cut side = go (decLt amountEnd side)
   where
-    go : Dec (limit < side) → isSideOut (min side limit) ≡ isSideOut side
-    go (yes l) = side-far (min side limit) (omega arith) ∙ sym (side-far side (omega arith))
-    go (no l) = let e : min side limit ≡ side = omega arith in ap isSideOut e
+    go : Dec (amountEnd < side) → isSideOut (min side amountEnd) ≡ isSideOut side
+    go (yes l) = side-far (min side amountEnd) (omega arith) ∙ sym (side-far side (omega arith))
+    go (no l) = let e : min side amountEnd ≡ side = omega arith in ap isSideOut e
 
 -- the answers of the header's step
 module _ (file : List ℕ) where
@@ -141,7 +142,7 @@ module _ (file : List ℕ) where
 
     header-2 : (refusal width height at exactWidth exactHeight : ℕ) → at ≤ length file
         → header file ≡ whole exactWidth exactHeight (drop at file)
-        → width ≡ min exactWidth limit → height ≡ min exactHeight limit → refusal ≡ first (frameRefusals width height)
+        → width ≡ min exactWidth amountEnd → height ≡ min exactHeight amountEnd → refusal ≡ first (frameRefusals width height)
         → HeaderRead file refusal width height at
     header-2 refusal width height at exactWidth exactHeight l e m n r = record {
       first-is = r ∙ (rw (p, e, m, n, side-cut exactWidth, side-cut exactHeight));

@@ -1,22 +1,20 @@
 -- A row's bytes are copied as they are, all but the last, whose padding bits are taken off as a remainder. A byte is the sum of
--- its bits by their weights, so
--- without its lowest bits it is the sum of the others: omega shows it for each of the eight numbers of bits that a last byte can
--- keep.
+-- its bits by their weights, so without its lowest bits it is the sum of the others: omega shows it for each of the eight numbers
+-- of bits that a last byte can keep.
 use Prim.Native.Nat.{ℕ, zero, suc, _+_, _-_, _*_, _/_, _%_, _^_, _≤_, _<_, min}
 use native.Mathlib.Nat.{div-div-eq-div-mul, div-add-mod}
 use native.Mathlib.Decide.{decLt}
 use native.Mathlib.Omega.{arith}
-use mathlib.Core.Path.{_≡_, refl, _∙_}
-use mathlib.Core.Bool.{Bool, true, false, cond}
+use mathlib.Core.Path.{_≡_, _∙_}
+use mathlib.Core.Bool.{cond}
 use mathlib.Core.List.{List}
 use lib.Dec.{ltb}
 use lib.ListN.{length, getD}
-use borrow.Author.Tests.{lt-ltb, le-ltb, ltb-true}
-use Rattle.basics.specs.Tables.{raster}
-use Rattle.basics.proofs.Arithmetic.{row-below}
-use Rattle.basics.proofs.TableLaws.{table-same}
-use Rattle.sheet.specs.Sheets.{rowBytes, bit, pixel, packedByte, packed}
-use Rattle.sheet.proofs.PixelLaws.{pixel-binary, pixel-packed, length-packed}
+use borrow.Author.Tests.{lt-ltb, le-ltb}
+use Rattle.sheet.specs.Sheets.{rowBytes, bit, pixel, packedByte}
+use Rattle.sheet.specs.SamePixels.{SamePixels}
+use Rattle.sheet.proofs.PixelLaws.{length-packed}
+use Rattle.sheet.proofs.SamePixelsLaws.{same-packed, clearing-keeps}
 use Rattle.pbm.specs.Pbm.{cleared}
 
 -- eight bits by their weights
@@ -106,36 +104,20 @@ module _ (width : ℕ) (raster : List ℕ) (row k kept : ℕ) (in-row : k < rowB
   packed-byte byte e b = packed-weigh width (pixel width raster row) k (keptBits byte kept) (bit-kept byte e)
       ∙ kept-sum byte b kept (omega arith) (omega arith)
 
--- NOTHING BUT THE PIXELS OF THE FRAME IS IN A PACKED SHEET
-pub packed-same : (width height : ℕ) (pixels pixels′ : ℕ → ℕ → ℕ)
-    → ((row col : ℕ) → row < height → col < width → pixels row col ≡ pixels′ row col)
-    → packed width height pixels ≡ packed width height pixels′
-unfolding packed raster packedByte
-packed-same width height pixels pixels′ same =
-    table-same (λ k. packedByte width (pixels (k / rowBytes width)) (k % rowBytes width))
-    (λ k. packedByte width (pixels′ (k / rowBytes width)) (k % rowBytes width)) (height * rowBytes width)
-    (λ k l.
-    let row = k / rowBytes width in
-    let col = k % rowBytes width in
-    packed-weigh width (pixels row) col (λ i. cond (ltb (col * 8 + i) width) (pixels′ row (col * 8 + i)) 0)
-    (λ i _. go row (col * 8 + i) (row-below (rowBytes width) height k l) (ltb (col * 8 + i) width) refl))
-  where
-    go : (row col : ℕ) → row < height → (t : Bool) → ltb col width ≡ t → cond t (pixels row col) 0 ≡ cond t (pixels′ row col) 0
-    go row col a true e = same row col a (ltb-true col width e)
-    go row col a false e = refl
+-- THE CLEARED SHEET is as long as its raster and has its pixels, and sheets with the same pixels are cleared alike
+pub cleared-same : (width height : ℕ) (one other : List ℕ) → SamePixels width height one other
+    → cleared width height one ≡ cleared width height other
+unfolding cleared
+cleared-same width height one other same = same-packed width height one other same
 
--- THE CLEARED SHEET is as long as its raster and has its pixels, and cleared twice it is the same
 module _ (width height : ℕ) (sheet : List ℕ) where
   pub length-cleared : length (cleared width height sheet) ≡ height * rowBytes width
   unfolding cleared
   length-cleared = length-packed width height (pixel width sheet)
 
-  pub pixel-cleared : (row col : ℕ) → row < height → col < width
-      → pixel width (cleared width height sheet) row col ≡ pixel width sheet row col
+  pub pixel-cleared : SamePixels width height (cleared width height sheet) sheet
   unfolding cleared
-  pixel-cleared = pixel-packed width height (pixel width sheet) (λ row col _ _. pixel-binary width sheet row col)
+  pixel-cleared = clearing-keeps width height sheet
 
   pub cleared-twice : cleared width height (cleared width height sheet) ≡ cleared width height sheet
-  unfolding cleared
-  cleared-twice = packed-same width height (pixel width (packed width height (pixel width sheet)))
-      (pixel width sheet) pixel-cleared
+  cleared-twice = cleared-same width height (cleared width height sheet) sheet pixel-cleared

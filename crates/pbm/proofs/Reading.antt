@@ -2,23 +2,25 @@
 -- raster's and the room's are left.
 use Prim.Native.Nat.{ℕ, _-_, _*_, _≤_, _<_}
 use native.Mathlib.Omega.{arith}
-use mathlib.Core.Path.{_≡_, sym, ap, _∙_}
+use mathlib.Core.Path.{_≡_, refl, sym, ap, ap₂, subst, _∙_}
 use mathlib.Core.Logic.{_≢_}
-use mathlib.Core.Bool.{true, false, not, _||_}
+use mathlib.Core.Bool.{true, false, not, _||_, true≢false}
 use mathlib.Core.List.{List, [], _∷_, _++_}
 use lib.Dec.{ltb}
 use lib.ListN.{length, take, drop, length-drop}
 use borrow.Author.Tests.{lt-ltb, le-ltb, ltb-false, not-false}
+use Rattle.basics.specs.Limits.{longestSide}
 use Rattle.basics.specs.Refusals.{first}
-use Rattle.basics.proofs.RefusalLaws.{first-refused, first-accepted, passed, refuses, accepts, rule-unique}
+use Rattle.basics.proofs.RefusalLaws.{first-refused, first-accepted, first-both, passed, refuses, accepts, rule-unique}
 use Rattle.sheet.specs.Sheets.{rowBytes, isSideOut, frameRefusals}
 use Rattle.sheet.proofs.FrameLaws.{frame-sides}
-use Rattle.pbm.specs.Header.{beginsP4, whole, header}
+use Rattle.pbm.specs.Header.{Header, broken, whole, beginsP4, header}
 use Rattle.text.specs.Writing.{begun}
-use Rattle.pbm.specs.Pbm.{cleared, isBroken, frameOf, headerRefusals, rasterRefusals, roomRefusals, rasterOf, readRefusals}
+use Rattle.pbm.specs.Pbm.{cleared, isBroken, frameOf, headerRefusals, rasterRefusals, roomRefusals, bodyRefusals, readRefusals}
 use Rattle.pbm.specs.Pbm.{readAnswer, ReadsPbm}
 use Rattle.pbm.specs.Steps.{HeaderRead}
-use Rattle.text.proofs.WroteLaws.{part-is}
+use Rattle.text.proofs.WroteLaws.{part-is, take-begun}
+use Rattle.pbm.proofs.PackingLaws.{length-cleared}
 
 -- the raster's refusals
 module _ (width height : ℕ) (raster : List ℕ) where
@@ -70,7 +72,7 @@ module _ (file out : List ℕ) where
   module _ {number width height at : ℕ} (r : HeaderRead file number width height at) where
     pub header-refuses : number ≢ 0 → ReadsPbm file out number 0 0 out
     header-refuses n = refuses number n
-        (r .first-is ∙ sym (first-refused (headerRefusals file) (rasterOf (header file) out) (λ z. n (r .first-is ∙ z))))
+        (r .first-is ∙ sym (first-refused (headerRefusals file) (bodyRefusals (header file) out) (λ z. n (r .first-is ∙ z))))
 
     module _ (z : number ≡ 0) where
       found : header file ≡ whole width height (drop at file)
@@ -90,7 +92,7 @@ module _ (file out : List ℕ) where
       frame-accepted = sym (ap (λ h. first (frameOf h)) found)
           ∙ passed 22 (isBroken (header file)) (frameOf (header file)) (λ n. omega arith) (begins .1) .1
 
-      pub frame-in : (width ≤ 4096) × (height ≤ 4096)
+      pub frame-in : (width ≤ longestSide) × (height ≤ longestSide)
       frame-in = let s = frame-sides width height frame-accepted in (s .0 .1, s .1 .1)
 
       -- the raster was handed on as a part of the file
@@ -130,3 +132,42 @@ module _ (file out : List ℕ) where
                 accepts (width, height, after) (whole-accepted file out p4 found frame-accepted (sym judged-is ∙ y) (omega arith))
                 (ap (λ text. (width, height, text)) (h ∙ ap (λ raster. begun (cleared width height raster) out) (part-is at file))
                 ∙ sym (ap (λ h. readAnswer h out) found))
+
+-- WHAT WAS READ, where nothing was refused: a whole header with an accepted frame, and its raster, cleared, in front of the output
+pub record WasRead (file out : List ℕ) (width height : ℕ) (after : List ℕ) : Type 0 where
+  pub raster : List ℕ
+  pub header-is : header file ≡ whole width height raster
+  pub frame-accepted : first (frameRefusals width height) ≡ 0
+  pub size : length raster ≡ height * rowBytes width
+  pub room : length raster ≤ length out
+  pub sheet : after ≡ begun (cleared width height raster) out
+
+pub was-read : {file out : List ℕ} {width height : ℕ} {after : List ℕ} → ReadsPbm file out 0 width height after
+    → WasRead file out width height after
+was-read {file} {out} {width} {height} {after} a =
+    let rest = frameOf (header file) ++ bodyRefusals (header file) out in
+    let p = passed 21 (not (beginsP4 file)) ((22, isBroken (header file)) ∷ rest) (λ n. omega arith) (sym (a .refusal)) in
+    let q = passed 22 (isBroken (header file)) rest (λ n. omega arith) (p .1) in
+    go (header file) refl (q .0) (q .1) (a .accepted refl)
+  where
+    go : (h : Header) → header file ≡ h → isBroken h ≡ false → first (frameOf h ++ bodyRefusals h out) ≡ 0
+        → _≡_ {A = ℕ × ℕ × List ℕ} (width, height, after) (readAnswer h out) → WasRead file out width height after
+    go broken e b z q = absurd (true≢false b)
+    go (whole w h raster) e b z q =
+        let f = first-both (frameRefusals w h) (rasterRefusals w h raster ++ roomRefusals (length raster) out) tt z in
+        let g = first-both (rasterRefusals w h raster) (roomRefusals (length raster) out) tt (f .1) in
+        let l = passed 11 (ltb (length out) (length raster)) [] (λ n. omega arith) (g .1) .0 in
+        subst (λ (x : ℕ × ℕ × List ℕ). WasRead file out (x .0) (x .1) (x .2)) (sym q) (record {
+          raster = raster;
+          header-is = e;
+          frame-accepted = f .0;
+          size = raster-accepted w h raster (g .0);
+          room = ltb-false (length out) (length raster) l;
+          sheet = refl;
+        })
+
+-- the sheet that the reader left
+pub sheet-read : {file out : List ℕ} {width height : ℕ} {after : List ℕ} (r : WasRead file out width height after)
+    → take (height * rowBytes width) after ≡ cleared width height (r .raster)
+sheet-read {out = out} {width = width} {height = height} r =
+    ap₂ take (sym (length-cleared width height (r .raster))) (r .sheet) ∙ take-begun (cleared width height (r .raster)) out

@@ -1,35 +1,38 @@
 -- Round trips, of the contracts alone. A written text is laid out as a header and its raster, so reading finds the frame and the
--- cleared sheet; that has the pixels of
--- the sheet, and clearing changes nothing of it, so writing it gives the same text.
-use Prim.Native.Nat.{ℕ, _*_, _≤_, _<_}
-use native.Mathlib.Decide.{ℕ-discrete}
+-- cleared sheet, which has the pixels of the sheet. Clearing again changes nothing, so what was read is written as the text of the
+-- raster that the file had; and sheets with the same pixels are cleared to one, so they are written alike.
+use Prim.Native.Nat.{ℕ, _*_, _≤_}
 use native.Mathlib.Omega.{arith}
-use mathlib.Core.Path.{_≡_, refl, sym, ap, ap₂, _∙_}
+use mathlib.Core.Path.{_≡_, refl, sym, ap, ap₂, subst, _∙_}
 use mathlib.Core.Logic.{_≢_}
 use mathlib.Core.Bool.{true}
 use mathlib.Core.List.{List, [], _∷_, _++_, append-assoc}
 use lib.ListN.{length, take}
 use borrow.Author.Tests.{le-ltb}
-use Rattle.basics.specs.Refusals.{Refusal, first}
-use Rattle.basics.proofs.RefusalLaws.{first-refused, first-accepted}
+use Rattle.basics.specs.Refusals.{Refusal, first, Answers}
+use Rattle.basics.proofs.RefusalLaws.{first-accepted, first-both}
 use Rattle.decimal.specs.Numbers.{digits}
 use Rattle.decimal.proofs.NumberLaws.{value-digits, digits-all, digits-some}
 use Rattle.sheet.specs.Sheets.{rowBytes, pixel, frameRefusals, sheetRefusals}
+use Rattle.sheet.specs.SamePixels.{SamePixels}
 use Rattle.sheet.proofs.FrameLaws.{accept-sheet, sheet-accepted}
-use Rattle.pbm.specs.Header.{isWhite, all, beginsP4, whole, header, Layout}
+use Rattle.sheet.proofs.SamePixelsLaws.{same-refusals}
 use Rattle.text.specs.Writing.{begun}
-use Rattle.pbm.specs.Pbm.{cleared, roomRefusals, readRefusals, readAnswer, ReadsPbm, headerText, pbmText, writeRefusals}
+use Rattle.text.proofs.WroteLaws.{take-begun}
+use Rattle.pbm.specs.Header.{isWhite, all, beginsP4, Header, broken, whole, header, Layout}
+use Rattle.pbm.specs.Pbm.{cleared, roomRefusals, readRefusals, readAnswer, ReadsPbm, pbmHeader, pbmText, writeRefusals}
 use Rattle.pbm.specs.Pbm.{WritesPbm}
+use Rattle.pbm.specs.RoundTrips.{sheetIn, WriteThenRead, ReadThenWrite, WrittenAlike}
 use Rattle.pbm.proofs.RunLaws.{all-digits}
 use Rattle.pbm.proofs.LayoutLaws.{layout-whole, p4-begins}
-use Rattle.pbm.proofs.PackingLaws.{length-cleared, pixel-cleared, cleared-twice}
-use Rattle.text.proofs.WroteLaws.{take-begun}
-use Rattle.pbm.proofs.Reading.{raster-exact, whole-accepted}
+use Rattle.pbm.proofs.PackingLaws.{length-cleared, pixel-cleared, cleared-same, cleared-twice}
+use Rattle.pbm.proofs.Reading.{raster-exact, whole-accepted, WasRead, was-read, sheet-read}
+use Rattle.pbm.proofs.Writing.{write-unique}
 
 module _ (width height : ℕ) (sheet : List ℕ) where
   -- a written text is laid out as a file is
-  pub text-layout : Layout (pbmText width height sheet) width height (cleared width height sheet)
-  unfolding pbmText headerText all isWhite
+  text-layout : Layout (pbmText width height sheet) width height (cleared width height sheet)
+  unfolding pbmText pbmHeader all isWhite
   text-layout = record {
     white₁ = 10 ∷ [];
     widthDigits = digits width;
@@ -46,23 +49,23 @@ module _ (width height : ℕ) (sheet : List ℕ) where
       some : (n : ℕ) → digits n ≢ []
       some n z = let l = ap length z in let d = digits-some n in omega arith
 
-  pub text-header : header (pbmText width height sheet) ≡ whole width height (cleared width height sheet)
+  text-header : header (pbmText width height sheet) ≡ whole width height (cleared width height sheet)
   text-header = layout-whole (pbmText width height sheet) width height (cleared width height sheet) text-layout
 
   text-begins : beginsP4 (pbmText width height sheet) ≡ true
-  unfolding pbmText headerText
+  unfolding pbmText pbmHeader
   text-begins = p4-begins _
 
   module _ (out : List ℕ) (f : first (frameRefusals width height) ≡ 0) (room : height * rowBytes width ≤ length out) where
     -- with room for the raster, the text is accepted
-    pub text-accepted : first (readRefusals (pbmText width height sheet) out) ≡ 0
+    text-accepted : first (readRefusals (pbmText width height sheet) out) ≡ 0
     text-accepted =
         let n = length-cleared width height sheet in
         whole-accepted (pbmText width height sheet) out text-begins text-header f
         (sym (raster-exact width height (cleared width height sheet) n)) (omega arith)
 
     -- and reading it gives the frame and the cleared sheet
-    pub read-text : (number width′ height′ : ℕ) (after : List ℕ)
+    read-text : (number width′ height′ : ℕ) (after : List ℕ)
         → ReadsPbm (pbmText width height sheet) out number width′ height′ after
         → (number ≡ 0) × (width′ ≡ width) × (height′ ≡ height) ×
         (take (height * rowBytes width) after ≡ cleared width height sheet)
@@ -78,7 +81,7 @@ module _ (width height : ℕ) (sheet : List ℕ) where
         )
 
   -- an accepted sheet is written as its text, where there is room
-  pub write-text : (room : List ℕ) → first (sheetRefusals width height sheet) ≡ 0
+  write-text : (room : List ℕ) → first (sheetRefusals width height sheet) ≡ 0
       → length (pbmText width height sheet) ≤ length room
       → (number size : ℕ) (after : List ℕ) → WritesPbm width height sheet room number size after
       → (number ≡ 0) × (take size after ≡ pbmText width height sheet)
@@ -90,62 +93,76 @@ module _ (width height : ℕ) (sheet : List ℕ) where
       let a = w .accepted z in
       (z, ap (λ (t : ℕ × List ℕ). take (t .0) (t .1)) a ∙ take-begun (pbmText width height sheet) room)
 
--- what was accepted as a whole is accepted in front
-front-accepted : (xs ys : List Refusal) → first (xs ++ ys) ≡ 0 → first xs ≡ 0
-front-accepted xs ys z = go (ℕ-discrete (first xs) 0)
-  where
-    go : Dec (first xs ≡ 0) → first xs ≡ 0
-    go (yes e) = e
-    go (no n) = absurd (n (sym (first-refused xs ys n) ∙ z))
+-- clearing changes nothing of what is written
+text-again : (width height : ℕ) (sheet : List ℕ) → pbmText width height (cleared width height sheet) ≡ pbmText width height sheet
+unfolding pbmText
+text-again width height sheet = ap (λ raster. pbmHeader width height ++ raster) (cleared-twice width height sheet)
 
--- THE ROUND TRIPS of a file that the writer gave, `take size written`
-module _ (width height : ℕ) (sheet room : List ℕ) (size : ℕ) (written : List ℕ)
-    (w : WritesPbm width height sheet room 0 size written) where
-  sheet-was-accepted : first (sheetRefusals width height sheet) ≡ 0
-  sheet-was-accepted = front-accepted (sheetRefusals width height sheet) (roomRefusals (length (pbmText width height sheet)) room)
-      (sym (w .refusal))
-
-  frame-was-accepted : first (frameRefusals width height) ≡ 0
-  frame-was-accepted = sheet-accepted width height sheet sheet-was-accepted .0
-
-  file-is : take size written ≡ pbmText width height sheet
-  file-is = ap (λ (t : ℕ × List ℕ). take (t .0) (t .1)) (w .accepted refl) ∙ take-begun (pbmText width height sheet) room
-
-  size-is : size ≡ length (pbmText width height sheet)
-  size-is = ap (λ (t : ℕ × List ℕ). t .0) (w .accepted refl)
-
-  module _ (out : List ℕ) (enough : height * rowBytes width ≤ length out) (number width′ height′ : ℕ) (after : List ℕ)
-      (r : ReadsPbm (take size written) out number width′ height′ after) where
-    read-back : (number ≡ 0) × (width′ ≡ width) × (height′ ≡ height) ×
-        (take (height * rowBytes width) after ≡ cleared width height sheet)
-    read-back = read-text width height sheet out frame-was-accepted enough number width′ height′ after (rw file-is at r)
-
-    -- WRITING AND THEN READING gives the frame and the pixels again
-    pub write-then-read : (number ≡ 0) × (width′ ≡ width) × (height′ ≡ height)
-        × ((row col : ℕ) → row < height → col < width
-        → pixel width (take (height * rowBytes width) after) row col ≡ pixel width sheet row col)
-    write-then-read = (
-      read-back .0,
-      read-back .1,
-      read-back .2,
-      λ row col a b. ap (λ bytes. pixel width bytes row col) (read-back .3) ∙ pixel-cleared width height sheet row col a b,
+-- WRITING AND THEN READING
+pub write-then-read : WriteThenRead
+write-then-read width height sheet room size written w out enough number width′ height′ after r =
+    let s = first-both (sheetRefusals width height sheet) (roomRefusals (length (pbmText width height sheet)) room) tt
+    (sym (w .refusal)) .0 in
+    let file : take size written ≡ pbmText width height sheet = ap (λ (t : ℕ × List ℕ). take (t .0) (t .1)) (w .accepted refl)
+    ∙ take-begun (pbmText width height sheet) room in
+    let t = read-text width height sheet out (sheet-accepted width height sheet s .0) enough number width′ height′ after
+    (rw file at r) in (
+      t .0,
+      t .1,
+      t .2,
+      λ row col a b. ap (λ bytes. pixel width bytes row col) (t .3) ∙ pixel-cleared width height sheet row col a b,
     )
 
-    -- and WRITING THAT AGAIN gives the same bytes
-    module _ (room₂ : List ℕ) (enough₂ : size ≤ length room₂) (number₂ size₂ : ℕ) (written₂ : List ℕ)
-        (v : WritesPbm width′ height′ (take (height′ * rowBytes width′) after) room₂ number₂ size₂ written₂) where
-      same-text : pbmText width height (cleared width height sheet) ≡ pbmText width height sheet
-      unfolding pbmText
-      same-text = ap (λ raster. headerText width height ++ raster) (cleared-twice width height sheet)
+-- READING AND THEN WRITING
+module _ (file out : List ℕ) (width height : ℕ) (after : List ℕ) (r : WasRead file out width height after) where
+  rewritten : (room : List ℕ) → length (pbmText width height (r .raster)) ≤ length room → (number size : ℕ) (written : List ℕ)
+      → WritesPbm width height (sheetIn width height after) room number size written
+      → (number ≡ 0) × (take size written ≡ pbmText width height (r .raster))
+  rewritten room l number size written w =
+      let sheet = cleared width height (r .raster) in
+      let s = sym (accept-sheet width height sheet (r .frame-accepted) (length-cleared width height (r .raster))) in
+      let e = text-again width height (r .raster) in
+      let n = ap length e in
+      let v : WritesPbm width height sheet room number size written = rw (sheet-read r) at w in
+      let t = write-text width height sheet room s (omega arith) number size written v in
+      (t .0, t .1 ∙ e)
 
-      again : WritesPbm width height (cleared width height sheet) room₂ number₂ size₂ written₂
-      again = let a = read-back .1 in let b = read-back .2 in let c = read-back .3 in rw c at (rw (a, b) at v)
+  -- a file in the writer's layout is the text of its own raster
+  textOf : Header → List ℕ
+  textOf broken = []
+  textOf (whole w h raster) = pbmText w h raster
 
-      pub read-then-write : (number₂ ≡ 0) × (take size₂ written₂ ≡ take size written)
-      read-then-write =
-          let s = sym (accept-sheet width height (cleared width height sheet) frame-was-accepted
-          (length-cleared width height sheet)) in
-          let l = ap length same-text in
-          let n = size-is in
-          let t = write-text width height (cleared width height sheet) room₂ s (omega arith) number₂ size₂ written₂ again in
-          (t .0, t .1 ∙ same-text ∙ sym file-is)
+  same-file : (width′ height′ : ℕ) (sheet : List ℕ) → file ≡ pbmText width′ height′ sheet → pbmText width height (r .raster) ≡ file
+  unfolding textOf
+  same-file width′ height′ sheet e =
+      ap textOf (sym (r .header-is) ∙ ap header e ∙ text-header width′ height′ sheet) ∙ text-again width′ height′ sheet ∙ sym e
+
+pub read-then-write : ReadThenWrite
+read-then-write file out width height after a =
+    let r = was-read a in (
+      r .raster,
+      r .header-is,
+      λ room l number size written w. (
+        rewritten file out width height after r room l number size written w .0,
+        rewritten file out width height after r room l number size written w .1,
+        λ width′ height′ sheet e. rewritten file out width height after r room l number size written w .1
+            ∙ same-file file out width height after r width′ height′ sheet e,
+      ),
+    )
+
+-- PADDING BITS CHANGE NOTHING: the two sheets have the same refusals and the same text
+same-text : (width height : ℕ) (one other : List ℕ) → SamePixels width height one other
+    → pbmText width height one ≡ pbmText width height other
+unfolding pbmText
+same-text width height one other same = ap (λ raster. pbmHeader width height ++ raster)
+    (cleared-same width height one other same)
+
+pub written-alike : WrittenAlike
+written-alike width height one other size-same same out m n size size′ x y a b =
+    let text = same-text width height one other same in
+    let refusals = same-refusals width height one other size-same in
+    let c : WritesPbm width height other out m size x = subst (λ (p : List Refusal × List ℕ).
+    Answers {A = ℕ × List ℕ} (p .0 ++ roomRefusals (length (p .1)) out) (0, out)
+    (λ answer. answer ≡ (length (p .1), begun (p .1) out)) m (size, x)) (λ i. (refusals i, text i)) a in
+    let u = write-unique width height other out m n size size′ x y c b in
+    (u .0, ap (λ (t : ℕ × List ℕ). t .0) (u .1), ap (λ (t : ℕ × List ℕ). t .1) (u .1))

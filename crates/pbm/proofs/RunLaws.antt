@@ -105,12 +105,13 @@ unfolding allDigits all
 all-digits [] = refl
 all-digits (byte ∷ rest) = ap (λ t. isDigit byte && t) (all-digits rest)
 
-pub filled-row : (row : List ℕ) → isNone row ≡ false → row ≢ []
-filled-row row e z = eqb-false (length row) 0 e (ap length z)
+-- a row that is not empty, as it is tested
+pub none-some : (row : List ℕ) → isNone row ≡ false → row ≢ []
+none-some row e z = eqb-false (length row) 0 e (ap length z)
 
-pub row-filled : (row : List ℕ) → row ≢ [] → isNone row ≡ false
-row-filled [] n = absurd (n refl)
-row-filled (byte ∷ row) n = ne-eqb (length (byte ∷ row)) 0 (λ z. omega arith)
+pub some-none : (row : List ℕ) → row ≢ [] → isNone row ≡ false
+some-none [] n = absurd (n refl)
+some-none (byte ∷ row) n = ne-eqb (length (byte ∷ row)) 0 (λ z. omega arith)
 
 -- a loop along the run of `kind` from `at` on
 pub record Skipping (kind : ℕ → Bool) (file : List ℕ) (at i : ℕ) : Type 0 where

@@ -8,6 +8,7 @@ use mathlib.Core.List.{List, [], _∷_, _++_, append-assoc}
 use lib.ListN.{length, take, drop, length-append, length-drop}
 use borrow.Author.Tests.{lt-ltb, le-ltb}
 use borrow.Rule.Slice.PartMut.{putMid}
+use Rattle.basics.specs.Limits.{longestSide}
 use Rattle.basics.specs.Refusals.{first}
 use Rattle.basics.proofs.RefusalLaws.{first-refused, first-accepted, refuses, accepts, rule-unique}
 use Rattle.decimal.specs.Numbers.{digits}
@@ -17,11 +18,11 @@ use Rattle.sheet.proofs.FrameLaws.{frame-sides, raster-small, sheet-accepted}
 use Rattle.text.specs.Writing.{begun, Wrote}
 use Rattle.text.proofs.WroteLaws.{fits-as, room-first, room-second, wrote-both, wrote-as, wrote-length, wrote-front, wrote-part}
 use Rattle.text.proofs.WroteLaws.{part-is}
-use Rattle.pbm.specs.Pbm.{cleared, headerText, pbmText, roomRefusals, WritesPbm}
+use Rattle.pbm.specs.Pbm.{cleared, pbmHeader, pbmText, roomRefusals, WritesPbm}
 use Rattle.pbm.proofs.PackingLaws.{length-cleared}
 
-pub length-header : (width height : ℕ) → length (headerText width height) ≡ 5 + length (digits width) + length (digits height)
-unfolding headerText
+pub length-header : (width height : ℕ) → length (pbmHeader width height) ≡ 5 + length (digits width) + length (digits height)
+unfolding pbmHeader
 length-header width height =
     let a = length-append (digits width) (32 ∷ (digits height ++ (10 ∷ []))) in
     let b = length-append (digits height) (10 ∷ []) in
@@ -31,13 +32,13 @@ length-header width height =
 abbrev sides : ℕ → ℕ → List ℕ
 sides width height = ((80 ∷ 52 ∷ 10 ∷ []) ++ digits width) ++ ((32 ∷ []) ++ digits height)
 
-header-pieces : (width height : ℕ) → sides width height ++ (10 ∷ []) ≡ headerText width height
-unfolding headerText
+header-pieces : (width height : ℕ) → sides width height ++ (10 ∷ []) ≡ pbmHeader width height
+unfolding pbmHeader
 header-pieces width height = simp append-assoc
 
-module _ (width height : ℕ) (out : List ℕ) (fits : length (headerText width height) ≤ length out) where
+module _ (width height : ℕ) (out : List ℕ) (fits : length (pbmHeader width height) ≤ length out) where
   room : 0 + length (sides width height ++ (10 ∷ [])) ≤ length out
-  room = fits-as (sides width height ++ (10 ∷ [])) (headerText width height) 0 (length out) (header-pieces width height)
+  room = fits-as (sides width height ++ (10 ∷ [])) (pbmHeader width height) 0 (length out) (header-pieces width height)
       (omega arith)
 
   pub sides-room : 0 + length (sides width height) ≤ length out
@@ -47,8 +48,8 @@ module _ (width height : ℕ) (out : List ℕ) (fits : length (headerText width 
     pub end-room : m + 1 ≤ length b
     end-room = room-second (sides width height) (10 ∷ []) 0 out room p
 
-    pub header-wrote : {c : List ℕ} {n : ℕ} → Wrote (10 ∷ []) m b c n → Wrote (headerText width height) 0 out c n
-    header-wrote q = wrote-as (sides width height ++ (10 ∷ [])) (headerText width height) (header-pieces width height)
+    pub header-wrote : {c : List ℕ} {n : ℕ} → Wrote (10 ∷ []) m b c n → Wrote (pbmHeader width height) 0 out c n
+    header-wrote q = wrote-as (sides width height ++ (10 ∷ [])) (pbmHeader width height) (header-pieces width height)
         (wrote-both (sides width height) (10 ∷ []) 0 out room p q)
 
 -- the size, from the counts of digits
@@ -73,11 +74,11 @@ module _ (width height : ℕ) (sheet out : List ℕ) where
       sheet-size : length sheet ≡ height * rowBytes width
       sheet-size = sheet-accepted width height sheet (sym e ∙ z) .1
 
-      pub sheet-in : (width ≤ 4096) × (height ≤ 4096)
+      pub sheet-in : (width ≤ longestSide) × (height ≤ longestSide)
       sheet-in = let s = frame-sides width height (sheet-accepted width height sheet (sym e ∙ z) .0) in (s .0 .1, s .1 .1)
 
       -- the sum of the sizes is far below a word
-      pub small : (length (digits width) ≤ 4) × (length (digits height) ≤ 4) × (length sheet ≤ 4096 * 512)
+      pub small : (length (digits width) ≤ 4) × (length (digits height) ≤ 4) × (length sheet ≤ longestSide * 512)
       small =
           let i = sheet-in in
           let q = sheet-size in
@@ -88,7 +89,7 @@ module _ (width height : ℕ) (sheet out : List ℕ) where
         size-is : size ≡ length (pbmText width height sheet)
         unfolding pbmText
         size-is =
-            let a = length-append (headerText width height) (cleared width height sheet) in
+            let a = length-append (pbmHeader width height) (cleared width height sheet) in
             let h = length-header width height in
             let l = length-cleared width height sheet in
             let q = sheet-size in
@@ -105,13 +106,13 @@ module _ (width height : ℕ) (sheet out : List ℕ) where
             (sym (room-left ∙ rw (lt-ltb (length out) (length (pbmText width height sheet)) (omega arith))))
 
         module _ (l : size ≤ length out) where
-          pub header-room : length (headerText width height) ≤ length out
+          pub header-room : length (pbmHeader width height) ≤ length out
           header-room = let h = length-header width height in omega arith
 
           -- the header stands in the output; the rest is lent for the raster
-          module _ (at : ℕ) (now : List ℕ) (h : Wrote (headerText width height) 0 out now at) where
+          module _ (at : ℕ) (now : List ℕ) (h : Wrote (pbmHeader width height) 0 out now at) where
             same-length : length now ≡ length out
-            same-length = wrote-length (headerText width height) 0 out now at (let r = header-room in omega arith) h
+            same-length = wrote-length (pbmHeader width height) 0 out now at (let r = header-room in omega arith) h
 
             pub at-room : at ≤ length now
             at-room = let o = same-length in let r = header-room in let p = h .place in omega arith
@@ -133,8 +134,8 @@ module _ (width height : ℕ) (sheet out : List ℕ) where
             unfolding pbmText
             write-accepts part q =
                 let o = size-is in
-                let r : 0 + length (headerText width height ++ cleared width height sheet) ≤ length out = omega arith in
-                let w = wrote-both (headerText width height) (cleared width height sheet) 0 out r h
+                let r : 0 + length (pbmHeader width height ++ cleared width height sheet) ≤ length out = omega arith in
+                let w = wrote-both (pbmHeader width height) (cleared width height sheet) 0 out r h
                 (wrote-part (cleared width height sheet) part now at q) in
                 accepts (size, putMid at (length now - at) now part)
                 (room-left ∙ rw (le-ltb (length out) (length (pbmText width height sheet)) (omega arith)))

@@ -1,6 +1,6 @@
 -- The header of a raw PBM file, as Netpbm's page has it, narrowed by document 01: "P4", one or more white bytes, the width, one
--- or more white bytes,
--- the height, exactly one white byte; what follows is the raster. No remarks: "#" breaks a header as any other byte does.
+-- or more white bytes, the height, exactly one white byte; what follows is the raster. No remarks: "#" breaks a header as any
+-- other byte does.
 use Prim.Native.Nat.{ℕ}
 use mathlib.Core.Path.{_≡_}
 use mathlib.Core.Logic.{_≢_}
@@ -68,7 +68,8 @@ header file = cond (beginsP4 file) (fromWidth (field (drop 2 file))) broken
     fromWidth missing = broken
     fromWidth (number width rest) = fromHeight width (field rest)
 
--- the same as one reads it: HeaderLaws shows that a header is whole exactly where its file is laid out so
+-- the same as one reads it: a header is whole exactly where its file is laid out so (`layout-whole`, `whole-layout` in
+-- proofs/LayoutLaws.antt)
 pub record Layout (file : List ℕ) (width height : ℕ) (raster : List ℕ) : Type 0 where
   pub white₁ : List ℕ
   pub widthDigits : List ℕ

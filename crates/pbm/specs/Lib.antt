@@ -1,3 +1,4 @@
 pub mod Header
 pub mod Pbm
 pub mod Steps
+pub mod RoundTrips

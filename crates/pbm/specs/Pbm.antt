@@ -35,12 +35,12 @@ rasterRefusals width height raster = (23, ltb (length raster) (height * rowBytes
 abbrev pub roomRefusals : ℕ → List ℕ → List Refusal
 roomRefusals size room = (11, ltb (length room) size) ∷ []
 
-abbrev pub rasterOf : Header → List ℕ → List Refusal
-rasterOf broken room = []
-rasterOf (whole width height raster) room = rasterRefusals width height raster ++ roomRefusals (length raster) room
+abbrev pub bodyRefusals : Header → List ℕ → List Refusal
+bodyRefusals broken room = []
+bodyRefusals (whole width height raster) room = rasterRefusals width height raster ++ roomRefusals (length raster) room
 
 abbrev pub readRefusals : List ℕ → List ℕ → List Refusal
-readRefusals file room = headerRefusals file ++ rasterOf (header file) room
+readRefusals file room = headerRefusals file ++ bodyRefusals (header file) room
 
 -- the frame, and the sheet in the output's first bytes
 abbrev pub readAnswer : Header → List ℕ → ℕ × ℕ × List ℕ
@@ -56,11 +56,11 @@ ReadsPbm file out number width height after =
     ) (λ answer. answer ≡ readAnswer (header file) out) number (width, height, after)
 
 -- WRITING. "P4", LF, width, blank, height, LF, and the raster with padding 0
-unfoldable pub headerText : ℕ → ℕ → List ℕ
-headerText width height = 80 ∷ 52 ∷ 10 ∷ (digits width ++ (32 ∷ (digits height ++ (10 ∷ []))))
+unfoldable pub pbmHeader : ℕ → ℕ → List ℕ
+pbmHeader width height = 80 ∷ 52 ∷ 10 ∷ (digits width ++ (32 ∷ (digits height ++ (10 ∷ []))))
 
 unfoldable pub pbmText : ℕ → ℕ → List ℕ → List ℕ
-pbmText width height sheet = headerText width height ++ cleared width height sheet
+pbmText width height sheet = pbmHeader width height ++ cleared width height sheet
 
 abbrev pub writeRefusals : ℕ → ℕ → List ℕ → List ℕ → List Refusal
 writeRefusals width height sheet room = sheetRefusals width height sheet ++

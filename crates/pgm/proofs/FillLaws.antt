@@ -9,7 +9,7 @@ use native.Mathlib.Omega.{arith}
 use lib.ListN.{length}
 use Rattle.decimal.specs.Numbers.{isDigit, digits, digitRun}
 use Rattle.decimal.proofs.NumberLaws.{run-end, run-digits}
-use Rattle.pgm.specs.Lines.{cut, endsLine, lines, Filled, last, before}
+use Rattle.pgm.specs.Lines.{lineWidth, cut, endsLine, lines, Filled, last, before}
 use Rattle.pgm.specs.PgmText.{stays, levelRow, frameRow}
 use Rattle.pgm.proofs.LineLaws.{Unbroken, cut-piece}
 use Rattle.pgm.proofs.LevelLines.{digits-unbroken, text-stays, text-begins, longer-unbroken}
@@ -51,9 +51,9 @@ module _ (begun : List ℕ) (n : ℕ) (rest : List ℕ) where
       → Filling begun (begun ++ levelRow (length begun) (n ∷ rest))
   unfolding stays endsLine
   filling-begins e u h =
-      let past = leb-false (length begun + 1 + length (digits n)) 70 e in
+      let past = leb-false (length begun + 1 + length (digits n)) lineWidth e in
       let size = ap length (h .run ∙ run-of-number n) in
-      let more : 70 < length begun + 1 + length (digitRun (h .first)) = omega arith in
+      let more : lineWidth < length begun + 1 + length (digitRun (h .first)) = omega arith in
       record {
         first = begun;
         others = h .first ∷ h .others;

@@ -1,26 +1,27 @@
 -- The answers of writing a finished run's picture, each from the tests that led to it, and that no second outcome meets its
 -- contract.
 use Prim.Native.Nat.{ℕ, _+_, _*_, _≤_, _<_, max}
-use native.Mathlib.Numerals.{add-one}
 use native.Mathlib.Omega.{arith}
-use mathlib.Core.Path.{_≡_, refl, sym, _∙_}
-use mathlib.Core.Bool.{Bool, true, false, not}
+use mathlib.Core.Path.{_≡_, refl, sym, ap, ap₂, _∙_}
+use mathlib.Core.Bool.{Bool, true, false, not, cond}
 use mathlib.Core.Logic.{_≢_}
 use mathlib.Core.List.{List, [], _∷_}
 use lib.Dec.{eqb, ltb}
-use lib.ListN.{length, getD, drop, drop-of-length-le}
-use lib.Seq.{drop-cons}
-use borrow.Author.Tests.{lt-ltb, le-ltb, eq-eqb, ne-eqb, eqb-true, ltb-false}
+use lib.ListN.{length}
+use borrow.Author.Tests.{lt-ltb, le-ltb, eq-eqb, ne-eqb, eqb-true, ltb-false, not-false}
 use Rattle.basics.specs.Bounds.{anyAbove}
-use Rattle.basics.specs.Refusals.{first}
-use Rattle.basics.proofs.RefusalLaws.{refuses, accepts, rule-unique}
+use Rattle.basics.specs.Limits.{longestSide}
+use Rattle.basics.specs.Refusals.{Refusal, first}
+use Rattle.basics.proofs.RefusalLaws.{passed, refuses, accepts, rule-unique}
 use Rattle.text.specs.Writing.{begun}
 use Rattle.run.specs.declared.Record.{Record}
-use Rattle.run.specs.Records.{due, recordBad}
+use Rattle.run.specs.Records.{isErosion, due, foreign, recordBad}
 use Rattle.run.specs.Continuing.{isDone}
-use Rattle.run.proofs.RecordLaws.{sound, not-bad}
+use Rattle.run.proofs.RecordLaws.{Sound, sound, not-bad}
+use Rattle.pgm.specs.PgmText.{pgmText}
 use Rattle.pgm.specs.Writing.{Picture}
 use Rattle.pgm.specs.WritePgm.{maximum, picture, pgmRefusals, WritesPgm}
+use Rattle.pgm.proofs.SizeLaws.{within-small, text-bound}
 
 -- the maximum, by the kind
 module _ (r : Record) where
@@ -31,61 +32,79 @@ module _ (r : Record) where
   maximum-dilation k = rw (ne-eqb (r .kind) 1 k)
 
 module _ (r : Record) (levels out : List ℕ) where
-  pub refuse-record : recordBad r ≡ true → 1 ≡ first (pgmRefusals r levels out)
-  refuse-record a = rw a
+  -- the refusals from each place on
+  abbrev fromRows : List Refusal
+  fromRows = (13, not (isDone r)) ∷ []
 
-  module _ (a : recordBad r ≡ false) where
-    pub refuse-level : anyAbove (maximum r) levels ≡ true → 8 ≡ first (pgmRefusals r levels out)
-    refuse-level b = rw (a, b)
+  abbrev fromRoom : List Refusal
+  fromRoom = (11, ltb (length out) (length (picture r levels))) ∷ fromRows
 
-    module _ (b : anyAbove (maximum r) levels ≡ false) where
-      pub refuse-count : length levels ≢ r .height * r .width → 10 ≡ first (pgmRefusals r levels out)
-      refuse-count n = rw (a, b, ne-eqb (length levels) (r .height * r .width) n)
+  abbrev fromCount : List Refusal
+  fromCount = (10, not (eqb (length levels) (r .height * r .width))) ∷ fromRoom
 
-      module _ (c : length levels ≡ r .height * r .width) (size : ℕ) (d : size ≡ length (picture r levels)) where
-        pub refuse-room : length out < size → 11 ≡ first (pgmRefusals r levels out)
-        refuse-room l = rw (
-          a,
-          b,
-          eq-eqb (length levels) (r .height * r .width) c,
-          lt-ltb (length out) (length (picture r levels)) (rw d at l),
-        )
+  abbrev fromLevels : List Refusal
+  fromLevels = (8, anyAbove (maximum r) levels) ∷ fromCount
 
-        module _ (l : size ≤ length out) where
-          pub refuse-rows : r .rows ≢ due r → 13 ≡ first (pgmRefusals r levels out)
-          refuse-rows n = rw (
-            a,
-            b,
-            eq-eqb (length levels) (r .height * r .width) c,
-            le-ltb (length out) (length (picture r levels)) (rw d at l),
-            ne-eqb (r .rows) (due r) n,
-          )
+  -- the tests as the code makes them, each after those before it
+  module _ {bad : Bool} (a : bad ≡ recordBad r) where
+    pub refuse-record : bad ≡ true → 1 ≡ first (pgmRefusals r levels out)
+    refuse-record e = rw (sym a ∙ e)
 
-          pub accept-picture : r .rows ≡ due r → 0 ≡ first (pgmRefusals r levels out)
-          accept-picture e = rw (
-            a,
-            b,
-            eq-eqb (length levels) (r .height * r .width) c,
-            le-ltb (length out) (length (picture r levels)) (rw d at l),
-            eq-eqb (r .rows) (due r) e,
-          )
+    module _ (sound : bad ≡ false) {most : ℕ} {above : Bool} (m : most ≡ maximum r) (b : above ≡ anyAbove most levels) where
+      past-record : {number : ℕ} → number ≡ first fromLevels → number ≡ first (pgmRefusals r levels out)
+      past-record e = rw (sym a ∙ sound) e
 
-  -- what an accepted call may rely on
+      above-is : {found : Bool} → above ≡ found → anyAbove (maximum r) levels ≡ found
+      above-is e = ap (λ n. anyAbove n levels) (sym m) ∙ sym b ∙ e
+
+      pub refuse-level : above ≡ true → 8 ≡ first (pgmRefusals r levels out)
+      refuse-level e = past-record (rw (above-is e))
+
+      module _ (within : above ≡ false) where
+        past-levels : {number : ℕ} → number ≡ first fromCount → number ≡ first (pgmRefusals r levels out)
+        past-levels e = past-record (rw (above-is within) e)
+
+        pub refuse-count : length levels ≢ r .height * r .width → 10 ≡ first (pgmRefusals r levels out)
+        refuse-count n = past-levels (rw (ne-eqb (length levels) (r .height * r .width) n))
+
+        module _ (c : length levels ≡ r .height * r .width) {all size : ℕ} (d : all ≡ due r)
+            (s : size ≡ length (pgmText (r .width) (r .height) most (r .rows) all levels)) where
+          past-count : {number : ℕ} → number ≡ first fromRoom → number ≡ first (pgmRefusals r levels out)
+          past-count e = past-levels (rw (eq-eqb (length levels) (r .height * r .width) c) e)
+
+          size-is : size ≡ length (picture r levels)
+          size-is = s ∙ ap₂ (λ n k. length (pgmText (r .width) (r .height) n (r .rows) k levels)) m d
+
+          pub refuse-room : length out < size → 11 ≡ first (pgmRefusals r levels out)
+          refuse-room l = past-count (rw (lt-ltb (length out) (length (picture r levels)) (rw size-is at l)))
+
+          module _ (l : size ≤ length out) where
+            past-room : {number : ℕ} → number ≡ first fromRows → number ≡ first (pgmRefusals r levels out)
+            past-room e = past-count (rw (le-ltb (length out) (length (picture r levels)) (rw size-is at l)) e)
+
+            pub refuse-rows : r .rows ≢ all → 13 ≡ first (pgmRefusals r levels out)
+            refuse-rows n = past-room (rw (ne-eqb (r .rows) (due r) (λ e. n (e ∙ sym d))))
+
+            pub accept-picture : r .rows ≡ all → 0 ≡ first (pgmRefusals r levels out)
+            accept-picture e = past-room (rw (eq-eqb (r .rows) (due r) (e ∙ d)))
+
+  -- what an accepted call may rely on: each of its refusals was found not to apply
   pub picture-accepted : first (pgmRefusals r levels out) ≡ 0
-      → (recordBad r ≡ false) × (length levels ≡ r .height * r .width) × (length (picture r levels) ≤ length out)
-  picture-accepted e = go (recordBad r) (anyAbove (maximum r) levels) (eqb (length levels) (r .height * r .width))
-      (ltb (length out) (length (picture r levels))) (isDone r) refl refl refl e
-    where
-      go : (a b c d f : Bool) → recordBad r ≡ a → eqb (length levels) (r .height * r .width) ≡ c
-          → ltb (length out) (length (picture r levels)) ≡ d
-          → first ((1, a) ∷ (8, b) ∷ (10, not c) ∷ (11, d) ∷ (13, not f) ∷ []) ≡ 0
-          → (recordBad r ≡ false) × (length levels ≡ r .height * r .width) × (length (picture r levels) ≤ length out)
-      go false false true false f p q s e =
-          (p, eqb-true (length levels) (r .height * r .width) q, ltb-false (length out) (length (picture r levels)) s)
-      go false false true true f p q s e = absurd (omega arith)
-      go false false false d f p q s e = absurd (omega arith)
-      go false true c d f p q s e = absurd (omega arith)
-      go true b c d f p q s e = absurd (omega arith)
+      → (recordBad r ≡ false) × (length levels ≡ r .height * r .width) × (length (picture r levels) ≤ length out) ×
+      (isDone r ≡ true)
+  picture-accepted e =
+      let counted = eqb (length levels) (r .height * r .width) in
+      let short = ltb (length out) (length (picture r levels)) in
+      let a = passed 1 (recordBad r) fromLevels (λ z. omega arith) e in
+      let b = passed 8 (anyAbove (maximum r) levels) fromCount (λ z. omega arith) (a .1) in
+      let c = passed 10 (not counted) fromRoom (λ z. omega arith) (b .1) in
+      let d = passed 11 short fromRows (λ z. omega arith) (c .1) in
+      let f = passed 13 (not (isDone r)) [] (λ z. omega arith) (d .1) in (
+        a .0,
+        eqb-true (length levels) (r .height * r .width) (not-false counted (c .0)),
+        ltb-false (length out) (length (picture r levels)) (d .0),
+        not-false (isDone r) (f .0),
+      )
 
   pub picture-refuses : (number : ℕ) → number ≢ 0 → number ≡ first (pgmRefusals r levels out)
       → WritesPgm r levels out number (0, out)
@@ -100,20 +119,35 @@ module _ (r : Record) (levels out : List ℕ) where
   write-pgm-unique = rule-unique
 
 -- a sound record's numbers are small
-pub sound-picture : (r : Record) (levels : List ℕ) → recordBad r ≡ false → length levels ≡ r .height * r .width → (most all : ℕ)
-    → most ≤ 4096 → all ≡ due r → Picture (r .width) (r .height) most (r .rows) all levels
-sound-picture r levels a size most all m e =
-    let b = not-bad r a in
-    let s = sound r (b .0) in
-    let h = s .area-high in
-    let d = b .1 in
-    record {
-      size = size;
-      width-some = s .wide .0;
-      width-most = s .wide .1;
-      height-some = s .high .0;
-      height-most = s .high .1;
-      small-maximum = omega arith;
-      small-done = omega arith;
-      small-due = omega arith;
-    }
+pub maximum-small : (r : Record) → foreign r ≡ false → maximum r ≤ longestSide
+maximum-small r a = go (isErosion r) (sound r a)
+  where
+    go : (t : Bool) → Sound r → cond t (max (r .width) (r .height)) (r .cap + 1) ≤ longestSide
+    go true s = let w = s .wide in let h = s .high in omega arith
+    go false s = let c = s .cap-small in omega arith
+
+module _ (r : Record) (levels : List ℕ) (a : recordBad r ≡ false) (size : length levels ≡ r .height * r .width) where
+  pub sound-picture : (most all : ℕ) → most ≡ maximum r → all ≡ due r → Picture (r .width) (r .height) most (r .rows) all levels
+  sound-picture most all m e =
+      let b = not-bad r a in
+      let s = sound r (b .0) in
+      let h = s .area-high in
+      let d = b .1 in
+      let l = maximum-small r (b .0) in
+      record {
+        size = size;
+        width-some = s .wide .0;
+        width-most = s .wide .1;
+        height-some = s .high .0;
+        height-most = s .high .1;
+        small-maximum = omega arith;
+        small-done = omega arith;
+        small-due = omega arith;
+      }
+
+  -- and so its text is short, where no level is above the maximum
+  pub picture-short : anyAbove (maximum r) levels ≡ false → length (picture r levels) ≤ 43 + 6 * (r .height * r .width)
+  picture-short b =
+      let l = maximum-small r (not-bad r a .0) in
+      text-bound (r .width) (r .height) (maximum r) (r .rows) (due r) levels (sound-picture (maximum r) (due r) refl refl)
+      (within-small (maximum r) (omega arith) levels b)

@@ -4,7 +4,7 @@ use mathlib.Core.Path.{_≡_}
 use mathlib.Core.List.{List, [], _∷_, _++_, append-assoc}
 use lib.ListN.{length}
 use Rattle.decimal.specs.Numbers.{digits}
-use Rattle.pgm.specs.PgmText.{line, rowsRemark, headerText}
+use Rattle.pgm.specs.PgmText.{line, rowsRemark, pgmHeader}
 use Rattle.text.specs.Writing.{Wrote}
 use Rattle.text.proofs.WroteLaws.{fits-as, room-first, room-second, wrote-both, wrote-as}
 
@@ -25,8 +25,8 @@ remark-pieces magic done due = simp append-assoc
 
 header-pieces : (magic : List ℕ) (done due width height maximum : ℕ)
     → (line magic ++ rowsRemark done due) ++
-    (sidesPiece width height ++ maximumPiece maximum) ≡ headerText magic done due width height maximum
-unfolding headerText
+    (sidesPiece width height ++ maximumPiece maximum) ≡ pgmHeader magic done due width height maximum
+unfolding pgmHeader
 header-pieces magic done due width height maximum = simp append-assoc
 
 -- up to the remark
@@ -52,7 +52,7 @@ module _ (magic : List ℕ) (done due at : ℕ) (buffer : List ℕ)
 
 -- the whole
 module _ (magic : List ℕ) (done due width height maximum at : ℕ) (buffer : List ℕ)
-    (fits : at + length (headerText magic done due width height maximum) ≤ length buffer) where
+    (fits : at + length (pgmHeader magic done due width height maximum) ≤ length buffer) where
   abbrev front : List ℕ
   front = line magic ++ rowsRemark done due
 
@@ -61,7 +61,7 @@ module _ (magic : List ℕ) (done due width height maximum at : ℕ) (buffer : L
 
   header-fits : at + length (front ++ rest) ≤ length buffer
   header-fits =
-      fits-as (front ++ rest) (headerText magic done due width height maximum) at (length buffer)
+      fits-as (front ++ rest) (pgmHeader magic done due width height maximum) at (length buffer)
       (header-pieces magic done due width height maximum) fits
 
   pub header-first : at + length (line magic ++ rowsRemark done due) ≤ length buffer
@@ -72,8 +72,8 @@ module _ (magic : List ℕ) (done due width height maximum at : ℕ) (buffer : L
     header-second = room-second front rest at buffer header-fits p
 
     pub header-wrote : {c : List ℕ} {n : ℕ} → Wrote (sidesPiece width height ++ maximumPiece maximum) m b c n
-        → Wrote (headerText magic done due width height maximum) at buffer c n
+        → Wrote (pgmHeader magic done due width height maximum) at buffer c n
     header-wrote q =
-        wrote-as (front ++ rest) (headerText magic done due width height maximum)
+        wrote-as (front ++ rest) (pgmHeader magic done due width height maximum)
         (header-pieces magic done due width height maximum)
         (wrote-both front rest at buffer header-fits p q)

@@ -11,9 +11,9 @@ use lib.ListN.{length, getD, length-append}
 use lib.Seq.{getD-append-add}
 use Rattle.decimal.specs.Numbers.{digits}
 use Rattle.decimal.proofs.NumberLaws.{digits-digit, digits-some, digit-bounds}
-use Rattle.pgm.specs.Lines.{Every, none, more, endsLine, lines, unlines, ShortLine}
-use Rattle.pgm.specs.PgmText.{rowsRemark, headerText, stays, levelRow, frameRow, levelsText}
-use Rattle.pgm.specs.Writing.{Small, SmallNumbers}
+use Rattle.pgm.specs.Lines.{lineWidth, Every, none, more, endsLine, lines, unlines, ShortLine}
+use Rattle.pgm.specs.PgmText.{rowsRemark, pgmHeader, stays, levelRow, frameRow, levelsText}
+use Rattle.pgm.specs.Writing.{levelEnd, Small, SmallNumbers}
 use Rattle.pgm.proofs.LineLaws.{Unbroken, every-append, every-take, every-drop, every-of, Lined, lines-unlines, lined-none}
 use Rattle.pgm.proofs.LineLaws.{lined-more, lined-as, lined-append}
 use Rattle.pgm.proofs.RowLaws.{parting-stays, parting-begins, after-stays, after-begins}
@@ -43,13 +43,13 @@ ends-in-number front n e =
     let r = digit-range n i (omega arith) in
     omega arith
 
-number-line : (front : List ℕ) (n : ℕ) → length front + length (digits n) ≤ 70 → ShortLine (front ++ digits n)
+number-line : (front : List ℕ) (n : ℕ) → length front + length (digits n) ≤ lineWidth → ShortLine (front ++ digits n)
 number-line front n l =
     let s = digits-some n in
     let a = length-append front (digits n) in
     record { some = omega arith; short = omega arith; closed = ends-in-number front n }
 
-short-number : (n : ℕ) → n < 65536 → ShortLine (digits n)
+short-number : (n : ℕ) → n < levelEnd → ShortLine (digits n)
 short-number n l = let f = five n l in number-line [] n (omega arith)
 
 -- a number that stays on the line begun, and one that begins the next
@@ -81,7 +81,7 @@ module _ (begun : List ℕ) (n : ℕ) (rest : List ℕ) where
   longer-short : stays (length begun) (length (digits n)) ≡ true → ShortLine longer
   unfolding stays
   longer-short e =
-      let l = leb-true (length begun + 1 + length (digits n)) 70 e in
+      let l = leb-true (length begun + 1 + length (digits n)) lineWidth e in
       let a = length-append begun (32 ∷ []) in
       rw append-assoc at (number-line (begun ++ (32 ∷ [])) n (omega arith))
 
@@ -143,15 +143,15 @@ module _ (done due width height maximum : ℕ) (s : SmallNumbers done due width 
   abbrev headerLines : List ℕ → List (List ℕ)
   headerLines magic = magic ∷ rowsRemark done due ∷ (digits width ++ (32 ∷ digits height)) ∷ digits maximum ∷ []
 
-  header-unlines : (magic : List ℕ) → headerText magic done due width height maximum ≡ unlines (headerLines magic)
-  unfolding headerText unlines
+  header-unlines : (magic : List ℕ) → pgmHeader magic done due width height maximum ≡ unlines (headerLines magic)
+  unfolding pgmHeader unlines
   header-unlines magic = simp append-assoc
 
   module _ (magic : List ℕ) (u : Unbroken magic) (m : ShortLine magic) where
     header-unbroken : Every Unbroken (headerLines magic)
     header-unbroken = more u (more (remark-line .0) (more (sides-line .0) (more (digits-unbroken maximum) none)))
 
-    pub header-lined : Lined (headerText magic done due width height maximum)
+    pub header-lined : Lined (pgmHeader magic done due width height maximum)
     header-lined = record {
       list = headerLines magic;
       is = header-unlines magic;
@@ -159,6 +159,6 @@ module _ (done due width height maximum : ℕ) (s : SmallNumbers done due width 
       short = more m (more (remark-line .1) (more (sides-line .1) (more (short-number maximum (s .small-maximum)) none)));
     }
 
-    pub header-lines : lines (headerText magic done due width height maximum) ≡ magic ∷ rowsRemark done due ∷
+    pub header-lines : lines (pgmHeader magic done due width height maximum) ≡ magic ∷ rowsRemark done due ∷
         (digits width ++ (32 ∷ digits height)) ∷ digits maximum ∷ []
     header-lines = ap lines (header-unlines magic) ∙ lines-unlines header-unbroken

@@ -10,3 +10,4 @@ pub mod WordLaws
 pub mod PgmLaws
 pub mod PgmExamples
 pub mod FinishedLaws
+pub mod Released

@@ -7,7 +7,7 @@ use mathlib.Core.List.{List, [], _∷_, _++_}
 use lib.ListN.{length, getD, take, drop, length-append}
 use Rattle.decimal.specs.Numbers.{digits}
 use Rattle.pgm.specs.Lines.{Every, none, more, endsLine, lines, unlines, ShortLine}
-use Rattle.pgm.specs.PgmText.{rowsRemark, headerText, plainMagic, frameRow, levelsText, pgmText}
+use Rattle.pgm.specs.PgmText.{rowsRemark, pgmHeader, plainMagic, frameRow, levelsText, pgmText}
 use Rattle.pgm.specs.Writing.{Small, SmallNumbers, Picture}
 use Rattle.pgm.proofs.LineLaws.{Unbroken, Lined, every-take, every-drop, lined-append, lined-lines, lined-back}
 use Rattle.pgm.proofs.LineLaws.{lined-apart, lined-last}
@@ -40,7 +40,7 @@ module _ (width height : ℕ) (levels : List ℕ) (h : Small levels) where
 module _ (width height maximum done due : ℕ) (levels : List ℕ) (h : Picture width height maximum done due levels)
     (small : Small levels) where
   abbrev header : List ℕ
-  header = headerText plainMagic done due width height maximum
+  header = pgmHeader plainMagic done due width height maximum
 
   abbrev text : List ℕ
   text = pgmText width height maximum done due levels
@@ -65,7 +65,7 @@ module _ (width height maximum done due : ℕ) (levels : List ℕ) (h : Picture 
       ∙ ap (λ first. first ++ lines (levelsText width height levels))
       (header-lines done due width height maximum numbers plainMagic magic-unbroken magic-short)
 
-  -- no line is empty or longer than 70 characters, and none ends in a blank
+  -- no line is empty or too long, and none ends in a blank
   pub text-lines : Every ShortLine (lines text)
   text-lines = lined-lines made
 

@@ -5,25 +5,31 @@ use native.Mathlib.Nat.{suc-mul, mul-le-mul}
 use native.Mathlib.Numerals.{add-one}
 use native.Mathlib.Omega.{arith}
 use mathlib.Core.Path.{_≡_, refl, sym, ap, _∙_}
+use mathlib.Core.Bool.{false}
 use mathlib.Core.List.{List, [], _∷_, _++_}
+use lib.Dec.{ltb}
 use lib.ListN.{length, getD, take, drop, length-append, length-drop, take-append-drop, drop-of-length-le}
 use lib.Seq.{drop-cons}
+use borrow.Author.Tests.{ltb-false}
+use Rattle.basics.specs.Bounds.{anyAbove}
+use Rattle.basics.specs.Limits.{longestSide}
+use Rattle.basics.proofs.BoundLaws.{neither}
 use Rattle.decimal.specs.Numbers.{digits}
 use Rattle.decimal.proofs.NumberLaws.{length-below}
 use Rattle.pgm.specs.Lines.{none, more}
-use Rattle.pgm.specs.PgmText.{headerText, plainMagic, columnAfter, levelRow, frameRow, levelsText, pgmText}
-use Rattle.pgm.specs.Writing.{levelsSize, Small, SmallNumbers, Picture}
+use Rattle.pgm.specs.PgmText.{pgmHeader, plainMagic, columnAfter, levelRow, frameRow, levelsText, pgmText}
+use Rattle.pgm.specs.Writing.{levelsSize, levelEnd, Small, SmallNumbers, Picture}
 
 -- a number of 16 bits has at most five digits
-pub five : (n : ℕ) → n < 65536 → length (digits n) ≤ 5
+pub five : (n : ℕ) → n < levelEnd → length (digits n) ≤ 5
 five n l = length-below 5 n (omega arith) (let m : n < 100000 = omega arith in m)
 
 -- the header
 pub header-size : (magic : List ℕ) (done due width height maximum : ℕ)
-    → length (headerText magic done due width height maximum)
+    → length (pgmHeader magic done due width height maximum)
     ≡ length magic + 16 + length (digits done) + length (digits due) + length (digits width) + length (digits height) + length
     (digits maximum)
-unfolding headerText
+unfolding pgmHeader
 header-size magic done due width height maximum = simp length-append (omega arith)
 
 pub header-bound : (done due width height maximum : ℕ) → SmallNumbers done due width height maximum
@@ -37,7 +43,7 @@ header-bound done due width height maximum s =
     omega arith
 
 pub header-short : (done due width height maximum : ℕ) → SmallNumbers done due width height maximum
-    → length (headerText plainMagic done due width height maximum) ≤ 43
+    → length (pgmHeader plainMagic done due width height maximum) ≤ 43
 header-short done due width height maximum s =
     let b = header-bound done due width height maximum s in
     let e = header-size plainMagic done due width height maximum in
@@ -91,6 +97,15 @@ levels-size width (suc height) levels e =
     let s = ap levelsSize (take-append-drop width levels) in
     omega arith
 
+-- levels within a limit of 16 bits are small
+pub within-small : (limit : ℕ) → limit < levelEnd → (levels : List ℕ) → anyAbove limit levels ≡ false → Small levels
+unfolding anyAbove
+within-small limit l [] e = none
+within-small limit l (level ∷ rest) e =
+    let h = neither (ltb limit level) (anyAbove limit rest) e in
+    let a = ltb-false limit level (h .0) in
+    more {x = level} (omega arith) (within-small limit l rest (h .1))
+
 pub size-bound : (levels : List ℕ) → Small levels → levelsSize levels ≤ 6 * length levels
 unfolding levelsSize
 size-bound [] none = omega arith
@@ -110,15 +125,15 @@ module _ (width height maximum done due : ℕ) (levels : List ℕ) (h : Picture 
         small-maximum = h .small-maximum;
       }
 
-  pub levels-few : length levels ≤ 16777216
-  levels-few = let m : height * width ≤ 4096 * 4096 = mul-le-mul (h .height-most) (h .width-most) in let s = h .size in
+  pub levels-few : length levels ≤ longestSide * longestSide
+  levels-few = let m : height * width ≤ longestSide * longestSide = mul-le-mul (h .height-most) (h .width-most) in let s = h .size in
       omega arith
 
   pub text-size : length (pgmText width height maximum done due levels)
-      ≡ length (headerText plainMagic done due width height maximum) + levelsSize levels
+      ≡ length (pgmHeader plainMagic done due width height maximum) + levelsSize levels
   unfolding pgmText
   text-size =
-      let a = length-append (headerText plainMagic done due width height maximum) (levelsText width height levels) in
+      let a = length-append (pgmHeader plainMagic done due width height maximum) (levelsText width height levels) in
       let b = levels-size width height levels (h .size) in
       omega arith
 
@@ -138,7 +153,7 @@ pub record Summing (levels : List ℕ) (sum i : ℕ) : Type 0 where
   pub bounded : sum ≤ 6 * i
 
 module _ {levels : List ℕ} {sum i : ℕ} (h : Summing levels sum i) where
-  pub summing-turn : (level count : ℕ) → i < length levels → (level ≡ getD levels i 0) × (level < 65536)
+  pub summing-turn : (level count : ℕ) → i < length levels → (level ≡ getD levels i 0) × (level < levelEnd)
       → count ≡ length (digits level) → (count ≤ 5) × Summing levels (sum + (count + 1)) (i + 1)
   unfolding levelsSize
   summing-turn level count l e n =

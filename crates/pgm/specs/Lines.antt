@@ -7,6 +7,10 @@ use lib.Dec.{eqb}
 use lib.ListN.{length, getD}
 use Rattle.decimal.specs.Numbers.{digitRun}
 
+-- the characters of a line, LF not counted
+abbrev pub lineWidth : ℕ
+lineWidth = 70
+
 -- P holds of each entry
 pub data Every {A : Type 0} (P : A → Type 0) : List A → Type 0 where
   none : Every P []
@@ -41,14 +45,14 @@ unlines (line ∷ rest) = line ++ (10 ∷ unlines rest)
 abbrev pub words : List ℕ → List (List ℕ)
 words text = cut endsWord text
 
--- what each line of a picture is: not empty, at most 70 characters long, and no blank is its last
+-- what each line of a picture is: not empty, not too long, and no blank is its last
 pub record ShortLine (line : List ℕ) : Type 0 where
   pub some : 0 < length line
-  pub short : length line ≤ 70
+  pub short : length line ≤ lineWidth
   pub closed : getD line (length line - 1) 0 ≢ 32
 
--- the lines of a frame row are filled: the number that begins the next line would have taken the line before past 70 characters
+-- the lines of a frame row are filled: the number that begins the next line would have taken the line before past its width
 pub data Filled : List (List ℕ) → Type 0 where
   last : {line : List ℕ} → Filled (line ∷ [])
-  before : {line next : List ℕ} {rest : List (List ℕ)} → 70 < length line + 1 + length (digitRun next) → Filled (next ∷ rest)
+  before : {line next : List ℕ} {rest : List (List ℕ)} → lineWidth < length line + 1 + length (digitRun next) → Filled (next ∷ rest)
       → Filled (line ∷ next ∷ rest)

@@ -5,6 +5,7 @@ use mathlib.Core.List.{List, [], _∷_, _++_}
 use lib.Dec.{leb}
 use lib.ListN.{length, take, drop}
 use Rattle.decimal.specs.Numbers.{digits}
+use Rattle.pgm.specs.Lines.{lineWidth}
 
 -- a line with its end
 abbrev pub line : List ℕ → List ℕ
@@ -15,14 +16,14 @@ abbrev pub rowsRemark : ℕ → ℕ → List ℕ
 rowsRemark done due = (35 ∷ 32 ∷ 114 ∷ 111 ∷ 119 ∷ 115 ∷ 32 ∷ []) ++ (digits done ++ ((32 ∷ 111 ∷ 102 ∷ 32 ∷ []) ++ digits due))
 
 -- a header, with the magic number of its format
-unfoldable pub headerText : List ℕ → ℕ → ℕ → ℕ → ℕ → ℕ → List ℕ
-headerText magic done due width height maximum =
+unfoldable pub pgmHeader : List ℕ → ℕ → ℕ → ℕ → ℕ → ℕ → List ℕ
+pgmHeader magic done due width height maximum =
     line magic ++ (line (rowsRemark done due) ++ (line (digits width ++ (32 ∷ digits height)) ++ line (digits maximum)))
 
--- whether a number of `size` digits stays on a line of `column` characters: with a blank before it, it takes the line to at most
--- 70
+-- whether a number of `size` digits stays on a line of `column` characters: with a blank before it, it takes the line no further
+-- than its width
 unfoldable pub stays : ℕ → ℕ → Bool
-stays column size = leb (column + 1 + size) 70
+stays column size = leb (column + 1 + size) lineWidth
 
 -- what parts it from the number before: a blank, or else LF, and it begins the next line
 unfoldable pub parting : ℕ → ℕ → ℕ
@@ -53,5 +54,5 @@ abbrev pub plainMagic : List ℕ
 plainMagic = 80 ∷ 50 ∷ []
 
 unfoldable pub pgmText : ℕ → ℕ → ℕ → ℕ → ℕ → List ℕ → List ℕ
-pgmText width height maximum done due levels = headerText plainMagic done due width height maximum ++
+pgmText width height maximum done due levels = pgmHeader plainMagic done due width height maximum ++
     levelsText width height levels

@@ -2,8 +2,7 @@
 use run::Record;
 ghost use mathlib.Core.Path.{_≡_};
 ghost use mathlib.Core.Bool.{false};
-ghost use Prim.Native.Nat.{_≤_, max};
-ghost use lib.ListN.{length};
+ghost use Prim.Native.Nat.{max};
 ghost use Rattle.basics.specs.Bounds.{anyAbove};
 ghost use Rattle.basics.specs.Refusals.{first};
 ghost use Rattle.run.specs.Records.{foreign};
@@ -24,7 +23,7 @@ fn larger(a: usize, b: usize) -> usize
 // The maximum that the picture states.
 fn maximum_of(run: Record) -> usize
     requires { ⌜ foreign run ≡ false ⌝ }
-    ensures { λ r. ⌜ (r ≡ maximum run) × (r ≤ 4096) ⌝ }
+    ensures { λ r. ⌜ r ≡ maximum run ⌝ }
 {
     if run.kind == 1 {
         return larger(run.width, run.height);
@@ -69,13 +68,22 @@ pub fn pgm_refusal(run: Record, levels: &[u16], out: &[u8]) -> u32
     0
 }
 
+fn refused(number: u32) -> WritePgm
+    ensures { λ r. ⌜ r ≡ record { refusal = number; length = 0 } ⌝ }
+{
+    WritePgm {
+        refusal: number,
+        length: 0,
+    }
+}
+
 // Public: writes the collected levels of a finished run as plain PGM at the front of `out`. Refusals 1, 8, 10, 11, 13.
 pub fn write_pgm(run: Record, levels: &[u16], out: &mut [u8]) -> WritePgm
     ensures { λ r. ⌜ WritesPgm run (now (levels .entry)) (now (out .entry)) (r .refusal) (r .length, now (out .exit)) ⌝ }
 {
     let refusal = pgm_refusal(run, levels, out);
     if refusal != 0 {
-        return WritePgm { refusal, length: 0 };
+        return refused(refusal);
     }
     let maximum = maximum_of(run);
     let due = run::records::rows_due(run);

@@ -6,14 +6,18 @@ ghost use mathlib.Core.List.{_∷_, [], _++_};
 ghost use Prim.Native.Nat.{_+_, _-_, _*_, _<_, _≤_};
 ghost use lib.ListN.{length};
 ghost use Rattle.decimal.specs.Numbers.{digits};
-ghost use Rattle.pgm.specs.PgmText.{line, rowsRemark, headerText, stays, parting, columnAfter, levelRow, frameRow};
+ghost use Rattle.pgm.specs.PgmText.{line, rowsRemark, pgmHeader, stays, parting, columnAfter, levelRow, frameRow};
 ghost use Rattle.pgm.specs.PgmText.{levelsText, pgmText};
 ghost use Rattle.text.specs.Writing.{begun, Wrote};
-ghost use Rattle.pgm.specs.Writing.{levelsSize, SmallNumbers, Picture};
+ghost use Rattle.basics.specs.Limits.{longestSide};
+ghost use Rattle.pgm.specs.Writing.{levelsSize, levelEnd, SmallNumbers, Picture};
+
+// The characters of a line, its end not counted.
+const LINE_WIDTH: usize = 70;
 
 // A level has 16 bits.
 fn wide(level: u16) -> usize
-    ensures { λ r. ⌜ (r ≡ level) × (r < 65536) ⌝ }
+    ensures { λ r. ⌜ (r ≡ level) × (r < levelEnd) ⌝ }
 {
     level as usize
 }
@@ -23,7 +27,7 @@ fn stays_on(column: usize, size: usize) -> bool
     requires { ⌜ column + 1 + size < 18446744073709551616 ⌝ }
     ensures { λ r. ⌜ r ≡ stays column size ⌝ }
 {
-    column + 1 + size <= 70
+    column + 1 + size <= LINE_WIDTH
 }
 
 // The byte before that number: a blank, or the end of the line before.
@@ -145,8 +149,8 @@ pub fn write_header(
     out: &mut [u8],
     at: usize,
 ) -> usize
-    requires { ⌜ at + length (headerText (now magic) done due width height maximum) ≤ length (now out) ⌝ }
-    ensures { λ r. ⌜ Wrote (headerText (now (magic .entry)) done due width height maximum) at (now (out .entry))
+    requires { ⌜ at + length (pgmHeader (now magic) done due width height maximum) ≤ length (now out) ⌝ }
+    ensures { λ r. ⌜ Wrote (pgmHeader (now (magic .entry)) done due width height maximum) at (now (out .entry))
         (now (out .exit)) r ⌝ }
 {
     let next = write_remark(magic, done, due, out, at);
@@ -163,7 +167,7 @@ pub fn header_length(
     maximum: usize,
 ) -> usize
     requires { ⌜ (length (now magic) ≡ 2) × SmallNumbers done due width height maximum ⌝ }
-    ensures { λ r. ⌜ r ≡ length (headerText (now (magic .entry)) done due width height maximum) ⌝ }
+    ensures { λ r. ⌜ r ≡ length (pgmHeader (now (magic .entry)) done due width height maximum) ⌝ }
 {
     18
         + decimal::digit_count(done)
@@ -175,8 +179,8 @@ pub fn header_length(
 
 // The length of the levels' text: a byte parts each number from the next, wherever the lines end.
 fn levels_length(levels: &[u16]) -> usize
-    requires { ⌜ length (now levels) ≤ 16777216 ⌝ }
-    ensures { λ r. ⌜ (r ≡ levelsSize (now (levels .entry))) × (r ≤ 6 * 16777216) ⌝ }
+    requires { ⌜ length (now levels) ≤ longestSide * longestSide ⌝ }
+    ensures { λ r. ⌜ (r ≡ levelsSize (now (levels .entry))) × (r ≤ 6 * (longestSide * longestSide)) ⌝ }
 {
     let mut sum = 0;
     let mut i = 0;

@@ -1,44 +1,44 @@
--- What an input is found to be. The room lent to the reader is never short, for the raster is a part of an input below 65,536
--- bytes; so the reader's refusals are the file's.
+-- What an input is found to be. The room lent to the reader is never short, for the raster is a part of the input; so the
+-- reader's
+-- refusals are the file's.
 -- Where it refuses nothing, the header is whole, and the front of the room is the sheet.
 use Prim.Native.Nat.{ℕ, _*_, _≤_, _<_}
 use native.Mathlib.Omega.{arith}
 use mathlib.Core.Path.{_≡_, refl, sym, ap, subst, _∙_}
 use mathlib.Core.Logic.{_≢_}
-use mathlib.Core.Bool.{Bool, false, not, cond, false≢true}
+use mathlib.Core.Bool.{Bool, false, not, cond}
 use mathlib.Core.List.{List, [], _∷_, _++_, append-assoc}
-use lib.Dec.{ltb}
 use lib.ListN.{length, take, length-append}
-use borrow.Author.Tests.{le-leb, lt-leb, eq-eqb, ne-eqb, le-ltb, ltb-false}
+use borrow.Author.Tests.{le-leb, lt-leb, eq-eqb, ne-eqb, le-ltb}
+use Rattle.basics.specs.Limits.{longestSide}
 use Rattle.basics.specs.Refusals.{Refusal, first}
 use Rattle.basics.proofs.RefusalLaws.{first-both, passed}
 use Rattle.sheet.specs.Sheets.{rowBytes, frameRefusals}
-use Rattle.sheet.proofs.FrameLaws.{frame-sides}
+use Rattle.sheet.proofs.FrameLaws.{frame-sides, accept-sheet}
 use Rattle.pbm.specs.Header.{Header, broken, whole, beginsP4, header}
-use Rattle.text.specs.Writing.{begun}
-use Rattle.pbm.specs.Pbm.{cleared, isBroken, frameOf, headerRefusals, rasterRefusals, readRefusals, readAnswer, ReadsPbm}
-use Rattle.pbm.specs.Pbm as pbm
+use Rattle.pbm.specs.Pbm.{cleared, isBroken, frameOf, headerRefusals, rasterRefusals, bodyRefusals, readRefusals, ReadsPbm}
 use Rattle.pbm.proofs.PackingLaws.{length-cleared}
-use Rattle.text.proofs.WroteLaws.{length-begun, take-begun}
+use Rattle.text.proofs.WroteLaws.{length-begun}
 use Rattle.pbm.proofs.LayoutLaws.{whole-layout}
-use Rattle.printing.specs.Printing.{refusedText, sheetText, rasterOf, fileRefusals, soundText, printed}
+use Rattle.pbm.proofs.Reading.{was-read, sheet-read}
+use Rattle.printing.specs.Printing.{inputEnd, refusedText, sheetText, rasterOf, fileRefusals, soundText, printed}
 use Rattle.printing.specs.Steps.{SoundSheet}
 
 -- WHAT IS PRINTED, by cases
 module _ (input : List ℕ) where
-  pub too-long : 65536 ≤ length input → refusedText 10 ≡ printed input
+  pub too-long : inputEnd ≤ length input → refusedText 10 ≡ printed input
   unfolding printed
-  too-long l = rw (le-leb 65536 (length input) l)
+  too-long l = rw (le-leb inputEnd (length input) l)
 
-  module _ (small : length input < 65536) where
+  module _ (small : length input < inputEnd) where
     file-refused : (number : ℕ) → number ≢ 0 → number ≡ first (fileRefusals input) → refusedText number ≡ printed input
     unfolding printed
     file-refused number n e =
-        rw (lt-leb 65536 (length input) small, ne-eqb (first (fileRefusals input)) 0 (λ z. n (e ∙ z))) (ap refusedText e)
+        rw (lt-leb inputEnd (length input) small, ne-eqb (first (fileRefusals input)) 0 (λ z. n (e ∙ z))) (ap refusedText e)
 
     pub file-sound : first (fileRefusals input) ≡ 0 → soundText (header input) ≡ printed input
     unfolding printed
-    file-sound z = rw (lt-leb 65536 (length input) small, eq-eqb (first (fileRefusals input)) 0 z)
+    file-sound z = rw (lt-leb inputEnd (length input) small, eq-eqb (first (fileRefusals input)) 0 z)
 
 -- the raster is a part of the file
 raster-within : (file : List ℕ) (width height : ℕ) (raster : List ℕ) → header file ≡ whole width height raster
@@ -63,7 +63,7 @@ idle n (r ∷ xs) = ap (cond (r .1) (r .0)) (idle n xs)
 
 room-idle : (front : List Refusal) (room : List ℕ) (h : Header)
     → ((width height : ℕ) (raster : List ℕ) → h ≡ whole width height raster → length raster ≤ length room)
-    → first (front ++ pbm.rasterOf h room) ≡ first (front ++ rasterOf h)
+    → first (front ++ bodyRefusals h room) ≡ first (front ++ rasterOf h)
 room-idle front room broken fits = refl
 room-idle front room (whole width height raster) fits =
     ap (λ (t : Bool). first (front ++ (rasterRefusals width height raster ++ (11, t) ∷ [])))
@@ -85,55 +85,20 @@ module _ (input : List ℕ) (none : first (fileRefusals input) ≡ 0) where
         (sym (ap (λ h. first (frameOf h ++ rasterOf h)) e) ∙ unbroken .1)
 
     pub sheet-sound : SoundSheet width height (cleared width height raster)
-    sheet-sound =
-        let s = frame-sides width height (parts .0) in
-        record {
-          width-some = s .0 .0;
-          width-most = s .0 .1;
-          height-some = s .1 .0;
-          height-most = s .1 .1;
-          size = length-cleared width height raster;
-        }
-
-    sheet-within : length (cleared width height raster) ≤ length input
-    sheet-within =
-        let size = height * rowBytes width in
-        let l = ltb-false (length raster) size
-        (passed 23 (ltb (length raster) size) ((24, ltb size (length raster)) ∷ []) (λ n. omega arith) (parts .1) .0) in
-        let w = raster-within input width height raster e in
-        let s = length-cleared width height raster in
-        omega arith
+    sheet-sound = sym (accept-sheet width height (cleared width height raster) (parts .0) (length-cleared width height raster))
 
 -- WHAT WAS READ: a sheet of `size` bytes at the front of the room
 pub record Found (input : List ℕ) (width height size : ℕ) (room : List ℕ) : Type 0 where
-  pub width-most : width ≤ 4096
-  pub few : size ≤ 65536
+  pub width-most : width ≤ longestSide
+  pub few : size ≤ inputEnd
   pub fits : size ≤ length room
   pub sound : SoundSheet width height (take size room)
   pub text : sheetText width height (take size room) ≡ printed input
 
-module _ (input room : List ℕ) (small : length input < 65536) (space : 65536 ≤ length room) where
+module _ (input room : List ℕ) (small : length input < inputEnd) (space : inputEnd ≤ length room) where
   same-refusals : first (readRefusals input room) ≡ first (fileRefusals input)
   same-refusals = room-idle (headerRefusals input) room (header input)
       (λ width height raster e. let w = raster-within input width height raster e in omega arith)
-
-  found-whole : first (fileRefusals input) ≡ 0 → (width height : ℕ) (raster : List ℕ) → header input ≡ whole width height raster
-      → Found input width height (height * rowBytes width) (begun (cleared width height raster) room)
-  found-whole none width height raster e =
-      let sheet = cleared width height raster in
-      let s = sheet-sound input none width height raster e in
-      let size = s .size in
-      let within = sheet-within input none width height raster e in
-      let long = length-begun (cleared width height raster) room (omega arith) in
-      let front : take (height * rowBytes width) (begun sheet room) ≡ sheet = ap (λ n. take n (begun sheet room)) (sym size)
-      ∙ take-begun sheet room in
-      record {
-        width-most = s .width-most;
-        few = omega arith;
-        fits = omega arith;
-        sound = subst (SoundSheet width height) (sym front) s;
-        text = ap (sheetText width height) front ∙ sym (ap soundText e) ∙ file-sound input small none;
-      }
 
   module _ (number width height : ℕ) (after : List ℕ) (a : ReadsPbm input room number width height after) where
     number-is : number ≡ first (fileRefusals input)
@@ -144,15 +109,22 @@ module _ (input room : List ℕ) (small : length input < 65536) (space : 65536 �
 
     module _ (z : number ≡ 0) where
       found : Found input width height (height * rowBytes width) after
-      found = let none = sym number-is ∙ z in go none (header input) refl (unbroken input none .0) (a .accepted z)
-        where
-          go : first (fileRefusals input) ≡ 0 → (h : Header) → header input ≡ h → isBroken h ≡ false
-              → _≡_ {A = ℕ × ℕ × List ℕ} (width, height, after) (readAnswer h room)
-              → Found input width height (height * rowBytes width) after
-          go none broken e b q = absurd (false≢true (sym b))
-          go none (whole w h raster) e b q =
-              subst (λ (x : ℕ × ℕ × List ℕ). Found input (x .0) (x .1) (x .1 * rowBytes (x .0)) (x .2)) (sym q)
-              (found-whole none w h raster e)
+      found =
+          let r = was-read (subst (λ n. ReadsPbm input room n width height after) z a) in
+          let sheet = cleared width height (r .raster) in
+          let good = sym number-is ∙ z in
+          let size = r .size in
+          let within = raster-within input width height (r .raster) (r .header-is) in
+          let same = length-cleared width height (r .raster) in
+          let long = ap length (r .sheet) ∙ length-begun sheet room (omega arith) in
+          let front = sheet-read r in
+          record {
+            width-most = frame-sides width height (r .frame-accepted) .0 .1;
+            few = omega arith;
+            fits = omega arith;
+            sound = subst (SoundSheet width height) (sym front) (sheet-sound input good width height (r .raster) (r .header-is));
+            text = ap (sheetText width height) front ∙ sym (ap soundText (r .header-is)) ∙ file-sound input small good;
+          }
 
       -- the row's bytes as they were counted
       pub read-found : (row : ℕ) → row ≡ rowBytes width → Found input width height (height * row) after

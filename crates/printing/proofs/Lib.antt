@@ -1,6 +1,5 @@
 pub mod RefusedLaws
 pub mod CrossLaws
-pub mod LevelBounds
 pub mod PageLaws
 pub mod InputLaws
 pub mod Meaning

@@ -5,48 +5,61 @@ use native.Mathlib.Omega.{arith}
 use mathlib.Core.Path.{_≡_, sym, ap, _∙_}
 use mathlib.Core.List.{List}
 use lib.IntN.{pos}
-use lib.ListN.{getD}
-use Rattle.grid.specs.Points.{Point, at, _⊕_}
-use Rattle.grid.specs.Sets.{PointSet, _⊆_}
+use lib.ListN.{getD, replicate, length-replicate}
+use Rattle.grid.specs.Points.{at}
+use Rattle.grid.specs.Sets.{_≈_}
 use Rattle.grid.specs.Levels.{IsErosionLevel}
+use Rattle.grid.specs.Starred.{erosionLevels}
+use Rattle.grid.proofs.SameSets.{answer-same}
 use Rattle.element.specs.Elements.{elementSet}
 use Rattle.sheet.specs.Sheets.{foreground}
+use Rattle.sheet.specs.Means.{LevelsMean}
+use Rattle.sheet.proofs.SamePixelsLaws.{same-set}
+use Rattle.row.specs.RowRule.{none}
 use Rattle.run.specs.Records.{due}
+use Rattle.run.specs.Starting.{startLevels}
+use Rattle.run.specs.Demand2.{finished}
+use Rattle.run.proofs.Demand2.{erosion-picture}
 use Rattle.pbm.specs.Pbm.{cleared}
 use Rattle.pbm.proofs.PackingLaws.{pixel-cleared}
 use Rattle.pgm.specs.PgmText.{pgmText}
+use Rattle.pgm.proofs.Released.{collected-length}
 use Rattle.printing.specs.Printing.{cross, crossRun, crossLevels, soundText}
+use Rattle.printing.specs.Steps.{SoundSheet}
 use Rattle.printing.specs.Meaning.{PrintedLevels}
-use Rattle.printing.proofs.CrossLaws.{levels-length}
-use Rattle.printing.proofs.LevelBounds.{levels-mean}
+use Rattle.printing.proofs.CrossLaws.{starts}
 use Rattle.printing.proofs.PageLaws.{few}
 use Rattle.printing.proofs.InputLaws.{file-sound, sheet-sound}
 
 -- padding is no foreground
-module _ (width height : ℕ) (raster : List ℕ) where
-  fewer : foreground width height (cleared width height raster) ⊆ foreground width height raster
-  fewer x (row, col, a, b, one, e) = (row, col, a, b, sym (pixel-cleared width height raster row col a b) ∙ one, e)
+cleared-same : (width height : ℕ) (raster : List ℕ)
+    → foreground width height (cleared width height raster) ≈ foreground width height raster
+cleared-same width height raster =
+    same-set width height (cleared width height raster) raster (pixel-cleared width height raster)
 
-  more : foreground width height raster ⊆ foreground width height (cleared width height raster)
-  more x (row, col, a, b, one, e) = (row, col, a, b, pixel-cleared width height raster row col a b ∙ one, e)
-
--- the same set has the same levels
-level-same : (A B K : PointSet) → A ⊆ B → B ⊆ A → (x : Point) (m : ℕ) → IsErosionLevel A K x m → IsErosionLevel B K x m
-level-same A B K f g x m level =
-    record { holds = λ k e b h. f (x ⊕ b) (level .holds k e b h); above = λ j held. level .above j (λ b h. g (x ⊕ b) (held b h)) }
+-- the levels that the program collects mean what they should
+levels-mean : (width height : ℕ) (sheet : List ℕ) → SoundSheet width height sheet
+    → LevelsMean width height (IsErosionLevel (foreground width height sheet) (elementSet 3 cross))
+    (crossLevels width height sheet)
+levels-mean width height sheet s =
+    let lent : List ℕ = replicate (height * width) 0 in
+    erosion-picture width height sheet 3 cross lent (crossRun width height) (startLevels width height 0 sheet none 0)
+    (starts width height sheet s lent (length-replicate (height * width) 0)) .0
 
 -- THE THEOREM
 pub printed-levels : PrintedLevels
-printed-levels input width height raster small e none l =
+printed-levels input width height raster small e good l =
     let sheet = cleared width height raster in
     let levels = crossLevels width height sheet in
     let all-rows : due (crossRun width height) ≡ height + height = omega arith in
-    let s = sheet-sound input none width height raster e in (
+    let s = sheet-sound input good width height raster e in (
       levels,
-      levels-length width height sheet,
-      sym (file-sound input small none) ∙ ap soundText e ∙ sym (few width height sheet l)
+      collected-length (crossRun width height) (finished (crossRun width height) (startLevels width height 0 sheet none 0)),
+      sym (file-sound input small good) ∙ ap soundText e ∙ sym (few width height sheet l)
           ∙ ap (λ n. pgmText width height (max width height) n n levels) all-rows,
-      (λ row col a b. level-same (foreground width height sheet) (foreground width height raster) (elementSet 3 cross)
-          (fewer width height raster) (more width height raster) (at (pos row) (pos col)) (getD levels (row * width + col) 0)
-          (levels-mean width height sheet s row col a b)),
+      (λ row col a b. answer-same (cleared-same width height raster) (
+        (λ x h. h),
+        (λ x h. h),
+      ) erosionLevels (at (pos row) (pos col))
+          (getD levels (row * width + col) 0) (levels-mean width height sheet s row col a b)),
     )

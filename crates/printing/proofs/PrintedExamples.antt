@@ -12,7 +12,7 @@ use Rattle.run.specs.Starting.{inked, startLevels}
 use Rattle.run.specs.Pictures.{collected}
 use Rattle.pbm.specs.Header.{isWhite, run, field, beginsP4, header}
 use Rattle.pbm.specs.Pbm.{cleared}
-use Rattle.pgm.specs.PgmText.{headerText, stays, parting, columnAfter, levelRow, frameRow, levelsText, pgmText}
+use Rattle.pgm.specs.PgmText.{pgmHeader, stays, parting, columnAfter, levelRow, frameRow, levelsText, pgmText}
 use Rattle.printing.specs.Printing.{refusedText, sheetText, printed}
 
 -- P2; # rows 6 of 6; 3 3; 3; 1 1 1; 1 2 1; 1 1 1
@@ -20,7 +20,10 @@ full-sheet : printed (80 ∷ 52 ∷ 10 ∷ 51 ∷ 32 ∷ 51 ∷ 10 ∷ 224 ∷ 2
     (35 ∷ 32 ∷ 114 ∷ 111 ∷ 119 ∷ 115 ∷ 32 ∷ 54 ∷ 32 ∷ 111 ∷ 102 ∷ 32 ∷ 54 ∷ 10 ∷ []) ++ (51 ∷ 32 ∷ 51 ∷ 10 ∷ []) ++
     (51 ∷ 10 ∷ []) ++ (49 ∷ 32 ∷ 49 ∷ 32 ∷ 49 ∷ 10 ∷ []) ++ (49 ∷ 32 ∷ 50 ∷ 32 ∷ 49 ∷ 10 ∷ []) ++
     (49 ∷ 32 ∷ 49 ∷ 32 ∷ 49 ∷ 10 ∷ [])
-unfolding printed sheetText isDigit valueFrom digitRun digits digitsIn isWhite run field beginsP4 header isSideOut cleared table raster pixel packedByte packed sevenBySeven isHeld centredCell centred flat unflat cellNumber within levelAt partner least firstMet lowered pointRule place columns rowRule scanRow scanRows inked startLevels collected pgmText headerText levelsText frameRow levelRow parting columnAfter stays
+unfolding printed sheetText isDigit valueFrom digitRun digits digitsIn isWhite run field beginsP4 header isSideOut cleared
+    table raster pixel packedByte packed sevenBySeven isHeld centredCell centred flat unflat cellNumber within levelAt partner
+    least firstMet lowered pointRule place columns rowRule scanRow scanRows inked startLevels collected pgmText pgmHeader
+    levelsText frameRow levelRow parting columnAfter stays
 full-sheet = refl
 
 -- "P5" earns 21; a raster short by a byte earns 23

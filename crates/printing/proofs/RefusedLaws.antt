@@ -8,14 +8,14 @@ use Rattle.decimal.specs.Numbers.{digits}
 use Rattle.decimal.proofs.NumberLaws.{length-below}
 use Rattle.text.specs.Writing.{Wrote}
 use Rattle.text.proofs.WroteLaws.{room-first, room-second, wrote-both, wrote-length, wrote-front, take-begun}
-use Rattle.printing.specs.Printing.{refusedText}
+use Rattle.printing.specs.Printing.{textRoom, refusedText}
 use Rattle.printing.specs.Steps.{Prints}
 
 -- "refused" and a blank
 abbrev word : List ℕ
 word = 114 ∷ 101 ∷ 102 ∷ 117 ∷ 115 ∷ 101 ∷ 100 ∷ 32 ∷ []
 
-module _ (number : ℕ) (out : List ℕ) (pre : (number < 4294967296) × (98432 ≤ length out)) where
+module _ (number : ℕ) (out : List ℕ) (pre : (number < 4294967296) × (textRoom ≤ length out)) where
   room : 0 + length ((word ++ digits number) ++ (10 ∷ [])) ≤ length out
   room =
       let p = pre .0 in

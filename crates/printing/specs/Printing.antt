@@ -17,6 +17,16 @@ use Rattle.pbm.specs.Header.{Header, broken, whole, header}
 use Rattle.pbm.specs.Pbm.{cleared, headerRefusals, rasterRefusals}
 use Rattle.pgm.specs.WritePgm.{picture}
 
+-- the program takes inputs below 65,536 bytes and sheets of at most 16,384 pixels; their pictures have at most 98,432 bytes
+abbrev pub inputEnd : ℕ
+inputEnd = 65536
+
+abbrev pub mostPixels : ℕ
+mostPixels = 16384
+
+abbrev pub textRoom : ℕ
+textRoom = 98432
+
 -- "refused", a blank, the number, LF
 unfoldable pub refusedText : ℕ → List ℕ
 refusedText number = (114 ∷ 101 ∷ 102 ∷ 117 ∷ 115 ∷ 101 ∷ 100 ∷ 32 ∷ []) ++ (digits number ++ (10 ∷ []))
@@ -35,7 +45,7 @@ crossLevels width height sheet =
 
 unfoldable pub sheetText : ℕ → ℕ → List ℕ → List ℕ
 sheetText width height sheet =
-    cond (ltb 16384 (width * height)) (refusedText 10)
+    cond (ltb mostPixels (width * height)) (refusedText 10)
     (picture (withRows (crossRun width height) (due (crossRun width height))) (crossLevels width height sheet))
 
 -- 21, 22, 2, 23, 24 of a file; the program's room is never short
@@ -50,8 +60,8 @@ abbrev pub soundText : Header → List ℕ
 soundText broken = []
 soundText (whole width height raster) = sheetText width height (cleared width height raster)
 
--- an input of 65,536 bytes or more is refused before all else
+-- an input that is too long is refused before all else
 unfoldable pub printed : List ℕ → List ℕ
 printed input =
-    cond (leb 65536 (length input)) (refusedText 10)
+    cond (leb inputEnd (length input)) (refusedText 10)
     (cond (eqb (first (fileRefusals input)) 0) (soundText (header input)) (refusedText (first (fileRefusals input))))

@@ -5,12 +5,22 @@ ghost use Prim.Native.Nat.{_+_, _*_, _<_, _≤_};
 ghost use lib.ListN.{length, take};
 ghost use Rattle.run.specs.Records.{due};
 ghost use Rattle.run.specs.Continuing.{withRows};
-ghost use Rattle.printing.specs.Printing.{refusedText, crossRun, crossLevels, sheetText, printed};
+ghost use Rattle.printing.specs.Printing.{inputEnd, mostPixels, textRoom, refusedText, crossRun, crossLevels, sheetText};
+ghost use Rattle.printing.specs.Printing.{printed};
 ghost use Rattle.printing.specs.Steps.{Prints, SoundSheet, Rooms};
+
+// Inputs from here on are refused.
+pub const INPUT_END: usize = 65536;
+
+// Sheets of more pixels are refused.
+pub const MOST_PIXELS: usize = 16384;
+
+// Room for the picture of so many pixels.
+pub const TEXT_ROOM: usize = 98432;
 
 // Writes "refused", a blank, the number and LF to the front of `out`, and gives the text's length.
 fn write_refused(number: usize, out: &mut [u8]) -> usize
-    requires { ⌜ (number < 4294967296) × (98432 ≤ length (now out)) ⌝ }
+    requires { ⌜ (number < 4294967296) × (textRoom ≤ length (now out)) ⌝ }
     ensures { λ r. ⌜ Prints (refusedText number) r (now (out .exit)) ⌝ }
 {
     let end = text::write_labelled(b"refused ", number, out, 0);
@@ -33,13 +43,13 @@ fn run_erosion(
     let cross = [0u8, 1, 0, 1, 1, 1, 0, 1, 0];
     let started = run::starting::start_erosion(width, height, sheet, 3, &cross, levels);
     let begun = started.run;
-    let continued = run::continuing::continue_run(begun, levels, 8192);
+    let continued = run::continuing::continue_run(begun, levels, basics::MOST_ROWS);
     let done = continued.run;
     let _refusal = run::pictures::collect(done, levels, collected);
     done
 }
 
-// Erodes a sheet of at most 16,384 pixels, and writes the picture of its levels.
+// Erodes a sheet of few enough pixels, and writes the picture of its levels.
 fn print_levels(
     width: usize,
     height: usize,
@@ -49,7 +59,7 @@ fn print_levels(
     out: &mut [u8],
 ) -> usize
     requires { ⌜ SoundSheet width height (now sheet) × ((length (now levels) ≡ height * width) ×
-        ((length (now collected) ≡ height * width) × ((width * height ≤ 16384) × (98432 ≤ length (now out))))) ⌝ }
+        ((length (now collected) ≡ height * width) × ((width * height ≤ mostPixels) × (textRoom ≤ length (now out))))) ⌝ }
     ensures { λ r. ⌜ Prints (sheetText width height (now (sheet .entry))) r (now (out .exit)) ⌝ }
 {
     let run = run_erosion(width, height, sheet, levels, collected);
@@ -70,7 +80,7 @@ fn print_sheet(
     ensures { λ r. ⌜ Prints (sheetText width height (now (sheet .entry))) r (now (out .exit)) ⌝ }
 {
     let count = width * height;
-    if 16384 < count {
+    if MOST_PIXELS < count {
         return write_refused(10, out);
     }
     print_levels(
@@ -91,10 +101,10 @@ pub fn print_erosion(
     collected: &mut [u16],
     out: &mut [u8],
 ) -> usize
-    requires { ⌜ (65536 ≤ length (now sheet)) × Rooms (now levels) (now collected) (now out) ⌝ }
+    requires { ⌜ (inputEnd ≤ length (now sheet)) × Rooms (now levels) (now collected) (now out) ⌝ }
     ensures { λ r. ⌜ (r ≤ length (now (out .exit))) × (take r (now (out .exit)) ≡ printed (now (input .entry))) ⌝ }
 {
-    if 65536 <= input.len() {
+    if INPUT_END <= input.len() {
         return write_refused(10, out);
     }
     let found = pbm::read_pbm(input, sheet);

@@ -7,10 +7,10 @@ use Rattle.pbm.proofs.read_field.Tie as tie
 
 returns : tie.Need-returns
 returns c =
-    let args = c .before .before .before .args in
-    let skip-white = c .before .skip-white in
-    field-lost (args .file .now) (args .at)
-    (field-without-white (args .file .now) (args .at) (skip-white .result) (skip-white .ensures) (c .if1 .taken))
+    let args = c .before .before .before .before .args in
+    let skip-white = c .before .before .skip-white in
+    rw (c .no-field .ensures) (field-lost (args .file .now) (args .at)
+    (field-without-white (args .file .now) (args .at) (skip-white .result) (skip-white .ensures) (c .before .if1 .taken)))
 
 read-number-requires : tie.Need-read-number-requires
 read-number-requires c κs =
@@ -21,12 +21,12 @@ read-number-requires c κs =
 
 returns-2 : tie.Need-returns-2
 returns-2 c =
-    let args = c .before .before .before .before .before .args in
-    let skip-white = c .before .before .before .skip-white in
-    let read-number = c .before .read-number in
-    field-lost (args .file .now) (args .at)
+    let args = c .before .before .before .before .before .before .args in
+    let skip-white = c .before .before .before .before .skip-white in
+    let read-number = c .before .before .read-number in
+    rw (c .no-field2 .ensures) (field-lost (args .file .now) (args .at)
     (field-without-digits (args .file .now) (args .at) (skip-white .result) (skip-white .ensures) (read-number .result .next)
-    (read-number .ensures .0) (c .before .before .if1 .left) (c .if2 .taken))
+    (read-number .ensures .0) (c .before .before .before .if1 .left) (c .before .if2 .taken)))
 
 returns-3 : tie.Need-returns-3
 returns-3 c =
@@ -41,4 +41,5 @@ returns-3 c =
 
 pub read-field-spec : {M : Type 1} → statement M
 read-field-spec =
-    tie.close (tie.spec (λ c κs. search needs) returns read-number-requires returns-2 returns-3)
+    tie.close (tie.spec (λ c κs. search needs) (λ c κs. search needs) returns read-number-requires
+    (λ c κs. search needs) returns-2 returns-3)

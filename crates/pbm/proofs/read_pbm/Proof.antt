@@ -7,8 +7,9 @@ use Rattle.pbm.proofs.read_pbm.Tie as tie
 
 returns : tie.Need-returns
 returns c =
-    let args = c .before .before .before .before .args in
-    header-refuses (args .file .now) (args .out .now) (c .before .read-header .ensures) (c .if1 .taken)
+    let args = c .before .before .before .before .before .args in
+    rw (c .read-refused .ensures)
+    (header-refuses (args .file .now) (args .out .now) (c .before .before .read-header .ensures) (c .before .if1 .taken))
 
 sub-raster-refusal : tie.Need-sub-raster-refusal
 sub-raster-refusal c =
@@ -27,12 +28,12 @@ raster-refusal-requires c κs =
 
 returns-2 : tie.Need-returns-2
 returns-2 c =
-    let args = c .before .before .before .before .before .before .before .args in
-    let read-header = c .before .before .before .before .read-header in
-    let if1 = c .before .before .before .if1 in
-    let raster-refusal = c .before .raster-refusal in
-    raster-refuses (args .file .now) (args .out .now) (read-header .ensures) (if1 .left) (raster-refusal .result)
-    (raster-refusal .ensures) (c .if2 .taken)
+    let args = c .before .before .before .before .before .before .before .before .args in
+    let read-header = c .before .before .before .before .before .read-header in
+    let if1 = c .before .before .before .before .if1 in
+    let raster-refusal = c .before .before .raster-refusal in
+    rw (c .read-refused2 .ensures) (raster-refuses (args .file .now) (args .out .now) (read-header .ensures) (if1 .left)
+    (raster-refusal .result) (raster-refusal .ensures) (c .before .if2 .taken))
 
 sub-if3 : tie.Need-sub-if3
 sub-if3 c =
@@ -43,12 +44,12 @@ sub-if3 c =
 
 returns-3 : tie.Need-returns-3
 returns-3 c =
-    let args = c .before .before .before .before .before .before .before .before .args in
-    let read-header = c .before .before .before .before .before .read-header in
-    let if1 = c .before .before .before .before .if1 in
-    let raster-refusal = c .before .before .raster-refusal in
-    room-refuses (args .file .now) (args .out .now) (read-header .ensures) (if1 .left) (raster-refusal .result)
-    (raster-refusal .ensures) (c .before .if2 .left) (c .if3 .taken)
+    let args = c .before .before .before .before .before .before .before .before .before .args in
+    let read-header = c .before .before .before .before .before .before .read-header in
+    let if1 = c .before .before .before .before .before .if1 in
+    let raster-refusal = c .before .before .before .raster-refusal in
+    rw (c .read-refused3 .ensures) (room-refuses (args .file .now) (args .out .now) (read-header .ensures) (if1 .left)
+    (raster-refusal .result) (raster-refusal .ensures) (c .before .before .if2 .left) (c .before .if3 .taken))
 
 sub-copy-cleared : tie.Need-sub-copy-cleared
 sub-copy-cleared c =
@@ -98,6 +99,7 @@ returns-4 c =
 
 pub read-pbm-spec : {M : Type 1} → statement M
 read-pbm-spec =
-    tie.close (tie.spec (λ c κs. search needs) returns sub-raster-refusal part-raster-refusal-start (λ c. search needs)
-    raster-refusal-requires returns-2 sub-if3 returns-3 sub-copy-cleared part-copy-cleared-start (λ c. search needs)
+    tie.close (tie.spec (λ c κs. search needs) (λ c κs. search needs) returns sub-raster-refusal part-raster-refusal-start
+    (λ c. search needs) raster-refusal-requires (λ c κs. search needs) returns-2 sub-if3
+    (λ c κs. search needs) returns-3 sub-copy-cleared part-copy-cleared-start (λ c. search needs)
     copy-cleared-requires (λ c. search needs) returns-4)

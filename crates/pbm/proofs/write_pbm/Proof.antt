@@ -8,10 +8,10 @@ use Rattle.pbm.proofs.write_pbm.Tie as tie
 
 returns : tie.Need-returns
 returns c =
-    let args = c .before .before .before .before .args in
-    let sheet-refusal = c .before .sheet-refusal in
-    sheet-refuses (args .width) (args .height) (args .sheet .now) (args .out .now) (sheet-refusal .result)
-    (sheet-refusal .ensures) (c .if1 .taken)
+    let args = c .before .before .before .before .before .args in
+    let sheet-refusal = c .before .before .sheet-refusal in
+    rw (c .write-refused .ensures) (sheet-refuses (args .width) (args .height) (args .sheet .now) (args .out .now)
+    (sheet-refusal .result) (sheet-refusal .ensures) (c .before .if1 .taken))
 
 add-size : tie.Need-add-size
 add-size c =
@@ -39,13 +39,14 @@ add-size-3 c =
 
 returns-2 : tie.Need-returns-2
 returns-2 c =
-    let args = c .before .before .before .before .before .before .before .args in
-    let sheet-refusal = c .before .before .before .before .sheet-refusal in
-    let if1 = c .before .before .before .if1 in
-    write-room-refuses (args .width) (args .height) (args .sheet .now) (args .out .now) (sheet-refusal .result)
-    (sheet-refusal .ensures) (if1 .left) _
-    (sizes _ _ _ _ (args .sheet .now) (c .before .before .digit-count .ensures) (c .before .digit-count2 .ensures))
-    (c .if2 .taken)
+    let args = c .before .before .before .before .before .before .before .before .args in
+    let sheet-refusal = c .before .before .before .before .before .sheet-refusal in
+    let if1 = c .before .before .before .before .if1 in
+    rw (c .write-refused2 .ensures) (write-room-refuses (args .width) (args .height) (args .sheet .now) (args .out .now)
+    (sheet-refusal .result) (sheet-refusal .ensures) (if1 .left) _
+    (sizes _ _ _ _ (args .sheet .now) (c .before .before .before .digit-count .ensures)
+    (c .before .before .digit-count2 .ensures))
+    (c .before .if2 .taken))
 
 write-header-requires : tie.Need-write-header-requires
 write-header-requires c κs =
@@ -99,9 +100,11 @@ copy-cleared-requires c κs =
         f .1,
         (
           sheet-there (args .width) (args .height) (args .sheet .now) (args .out .now) (sheet-refusal .result)
-              (sheet-refusal .ensures) (if1 .left) _ (sizes _ _ _ _ (args .sheet .now) (digit-count .ensures) (digit-count2 .ensures))
+              (sheet-refusal .ensures) (if1 .left) _
+              (sizes _ _ _ _ (args .sheet .now) (digit-count .ensures) (digit-count2 .ensures))
               (if2 .left) (write-header .result) (write-header .last .1 .1 .0) (write-header .ensures),
-          part-room (args .width) (args .height) (args .sheet .now) (args .out .now) (sheet-refusal .result) (sheet-refusal .ensures)
+          part-room (args .width) (args .height) (args .sheet .now) (args .out .now) (sheet-refusal .result)
+              (sheet-refusal .ensures)
               (if1 .left) _ (sizes _ _ _ _ (args .sheet .now) (digit-count .ensures) (digit-count2 .ensures)) (if2 .left)
               (write-header .result) (write-header .last .1 .1 .0) (write-header .ensures),
         ),
@@ -110,12 +113,13 @@ copy-cleared-requires c κs =
 
 returns-3 : tie.Need-returns-3
 returns-3 c =
-    let args = c .before .before .before .before .before .before .before .before .before .before .before .before .before .before .before .args in
-    let sheet-refusal = c .before .before .before .before .before .before .before .before .before .before .before .before .sheet-refusal in
-    let if1 = c .before .before .before .before .before .before .before .before .before .before .before .if1 in
-    let digit-count = c .before .before .before .before .before .before .before .before .before .before .digit-count in
-    let digit-count2 = c .before .before .before .before .before .before .before .before .before .digit-count2 in
-    let if2 = c .before .before .before .before .before .before .before .before .if2 in
+    let earlier = c .before .before .before .before .before .before .before in
+    let args = earlier .before .before .before .before .before .before .before .before .args in
+    let sheet-refusal = earlier .before .before .before .before .before .sheet-refusal in
+    let if1 = earlier .before .before .before .before .if1 in
+    let digit-count = earlier .before .before .before .digit-count in
+    let digit-count2 = earlier .before .before .digit-count2 in
+    let if2 = earlier .before .if2 in
     let write-header = c .before .before .before .before .before .before .write-header in
     let copy-cleared = c .before .before .copy-cleared in
     write-accepts (args .width) (args .height) (args .sheet .now) (args .out .now) (sheet-refusal .result)
@@ -125,6 +129,7 @@ returns-3 c =
 
 pub write-pbm-spec : {M : Type 1} → statement M
 write-pbm-spec =
-    tie.close (tie.spec (λ c κs. search needs) returns (λ c κs. search needs) add-size (λ c κs. search needs) add-size-2
-    add-size-3 returns-2 write-header-requires sub-copy-cleared part-copy-cleared-start (λ c. search needs)
+    tie.close (tie.spec (λ c κs. search needs) (λ c κs. search needs) returns (λ c κs. search needs) add-size
+    (λ c κs. search needs) add-size-2 add-size-3
+    (λ c κs. search needs) returns-2 write-header-requires sub-copy-cleared part-copy-cleared-start (λ c. search needs)
     copy-cleared-requires (λ c. search needs) returns-3)

@@ -28,9 +28,10 @@ write-refused-requires-2 c κs =
 
 returns-2 : tie.Need-returns-2
 returns-2 c =
-    let args = c .before .before .before .before .before .before .before .before .before .before .before .before .before .before .before .args in
-    let pre = c .before .before .before .before .before .before .before .before .before .before .before .before .before .before .before .pre in
-    let if1 = c .before .before .before .before .before .before .before .before .before .if1 in
+    let earlier = c .before .before .before .before .before .before .before in
+    let args = earlier .before .before .before .before .before .before .before .before .args in
+    let pre = earlier .before .before .before .before .before .before .before .before .pre in
+    let if1 = earlier .before .before .if1 in
     let read-pbm = c .before .before .before .before .before .before .before .read-pbm in
     let if2 = c .before .before .before .before .if2 in
     let write-refused2 = c .before .before .write-refused2 in
@@ -83,9 +84,10 @@ slice-aggregate-print-sheet c =
 
 print-sheet-requires : tie.Need-print-sheet-requires
 print-sheet-requires c κs =
-    let args = c .before .before .before .before .before .before .before .before .before .before .before .before .before .before .before .before .args in
-    let pre = c .before .before .before .before .before .before .before .before .before .before .before .before .before .before .before .before .pre in
-    let if1 = c .before .before .before .before .before .before .before .before .before .before .if1 in
+    let earlier = c .before .before .before .before .before .before .before .before in
+    let args = earlier .before .before .before .before .before .before .before .before .args in
+    let pre = earlier .before .before .before .before .before .before .before .before .pre in
+    let if1 = earlier .before .before .if1 in
     let read-pbm = c .before .before .before .before .before .before .before .before .read-pbm in
     let if2 = c .before .before .before .before .before .if2 in
     let row-bytes = c .before .before .before .before .row-bytes in (
@@ -97,11 +99,12 @@ print-sheet-requires c κs =
 
 returns-3 : tie.Need-returns-3
 returns-3 c =
-    let args = c .before .before .before .before .before .before .before .before .before .before .before .before .before .before .before .before .before .before .before .before .before .before .before .args in
-    let pre = c .before .before .before .before .before .before .before .before .before .before .before .before .before .before .before .before .before .before .before .before .before .before .before .pre in
-    let if1 = c .before .before .before .before .before .before .before .before .before .before .before .before .before .before .before .before .before .if1 in
-    let read-pbm = c .before .before .before .before .before .before .before .before .before .before .before .before .before .before .before .read-pbm in
-    let if2 = c .before .before .before .before .before .before .before .before .before .before .before .before .if2 in
+    let earlier = c .before .before .before .before .before .before .before .before .before .before .before in
+    let args = earlier .before .before .before .before .before .before .before .before .before .before .before .before .args in
+    let pre = earlier .before .before .before .before .before .before .before .before .before .before .before .before .pre in
+    let if1 = earlier .before .before .before .before .before .before .if1 in
+    let read-pbm = earlier .before .before .before .before .read-pbm in
+    let if2 = earlier .before .if2 in
     let row-bytes = c .before .before .before .before .before .before .before .before .before .before .before .row-bytes in
     let print-sheet = c .before .before .before .before .before .before .print-sheet in
     prints-as (print-sheet .result) (print-sheet .last .1 .1 .1 .1 .1 .0)

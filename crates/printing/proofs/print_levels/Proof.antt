@@ -7,9 +7,10 @@ use Rattle.printing.proofs.print_levels.Tie as tie
 
 returns : tie.Need-returns
 returns c =
-    let args = c .before .before .before .before .before .before .before .before .before .before .before .before .before .before .before .before .args in
-    let pre = c .before .before .before .before .before .before .before .before .before .before .before .before .before .before .before .before .pre in
-    let run-erosion = c .before .before .before .before .before .before .before .before .before .run-erosion in
+    let earlier = c .before .before .before .before .before .before .before .before in
+    let args = earlier .before .before .before .before .before .before .before .before .args in
+    let pre = earlier .before .before .before .before .before .before .before .before .pre in
+    let run-erosion = earlier .before .run-erosion in
     let write-pgm = c .before .before .write-pgm in
     picture-prints (args .width) (args .height) (args .sheet .now) (pre .0) (pre .1 .1 .1 .0) (args .out .now) (pre .1 .1 .1 .1)
     (run-erosion .result) (run-erosion .last .1 .1 .1 .1 .0) (run-erosion .ensures) (write-pgm .result .refusal)

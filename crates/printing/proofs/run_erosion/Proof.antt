@@ -6,9 +6,10 @@ use Rattle.printing.proofs.run_erosion.Tie as tie
 
 returns : tie.Need-returns
 returns c =
-    let args = c .before .before .before .before .before .before .before .before .before .before .before .before .before .before .before .before .before .before .before .args in
-    let pre = c .before .before .before .before .before .before .before .before .before .before .before .before .before .before .before .before .before .before .before .pre in
-    let start-erosion = c .before .before .before .before .before .before .before .before .before .before .before .before .before .start-erosion in
+    let earlier = c .before .before .before .before .before .before .before .before .before in
+    let args = earlier .before .before .before .before .before .before .before .before .before .before .args in
+    let pre = earlier .before .before .before .before .before .before .before .before .before .before .pre in
+    let start-erosion = earlier .before .before .before .before .start-erosion in
     let continue-run = c .before .before .before .before .before .before .before .before .continue-run in
     let collect = c .before .before .collect in
     let started = start-gives (args .width) (args .height) (args .sheet .now) (pre .0) (args .levels .now) (pre .1 .0)

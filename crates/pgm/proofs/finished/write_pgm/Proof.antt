@@ -11,8 +11,9 @@ use Rattle.pgm.proofs.finished.write_pgm.Tie as tie
 
 returns : tie.Need-returns
 returns c =
-    let args = c .before .before .before .before .before .args in
-    picture-refuses (args .run) (args .levels .now) (args .out .now) _ (c .if1 .taken) (c .before .pgm-refusal .ensures)
+    let args = c .before .before .before .before .before .before .args in
+    rw (c .refused .ensures) (picture-refuses (args .run) (args .levels .now) (args .out .now) _ (c .before .if1 .taken)
+    (c .before .before .pgm-refusal .ensures))
 
 maximum-of-requires : tie.Need-maximum-of-requires
 maximum-of-requires c κs =
@@ -35,8 +36,8 @@ write-pgm-text-requires c κs =
     let rows-due = c .before .rows-due in
     let q = picture-accepted (args .run) (args .levels .now) (args .out .now) (sym (pgm-refusal .ensures) ∙ if1 .left) in
     let e = ap₂ (λ m d. pgmText (args .run .width) (args .run .height) m (args .run .rows) d (args .levels .now))
-    (maximum-of .ensures .0) (rows-due .ensures .0) in (
-      sound-picture (args .run) (args .levels .now) (q .0) (q .1) (maximum-of .result) (rows-due .result) (maximum-of .ensures .1)
+    (maximum-of .ensures) (rows-due .ensures .0) in (
+      sound-picture (args .run) (args .levels .now) (q .0) (q .1) (maximum-of .result) (rows-due .result) (maximum-of .ensures)
           (rows-due .ensures .0),
       rw e (q .2),
     )
@@ -50,12 +51,12 @@ returns-2 c =
     let rows-due = c .before .before .before .before .rows-due in
     let write-pgm-text = c .before .before .write-pgm-text in
     let e = ap₂ (λ m d. pgmText (args .run .width) (args .run .height) m (args .run .rows) d (args .levels .now))
-    (maximum-of .ensures .0) (rows-due .ensures .0) in
+    (maximum-of .ensures) (rows-due .ensures .0) in
     let w = write-pgm-text .ensures in
     picture-accepts (args .run) (args .levels .now) (args .out .now) (sym (pgm-refusal .ensures) ∙ if1 .left)
     (write-pgm-text .result) _ (w .0 ∙ ap length e) (w .1 ∙ ap (λ t. begun t (args .out .now)) e)
 
 pub write-pgm-spec : {M : Type 1} → statement M
 write-pgm-spec =
-    tie.close (tie.spec (λ c κs. search needs) (λ c. search needs) returns maximum-of-requires rows-due-requires
+    tie.close (tie.spec (λ c κs. search needs) (λ c κs. search needs) (λ c. search needs) returns maximum-of-requires rows-due-requires
     write-pgm-text-requires (λ c. search needs) returns-2)
