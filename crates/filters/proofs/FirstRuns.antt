@@ -1,78 +1,141 @@
--- The first run of each kind, as the code starts and finishes it.
+-- The first run of a plan: an accepted plan starts it, it is a run that a start gives, and the way back from it holds the set
+-- opened or closed.
+-- An opening's start is written with the margin of a cap of 0, which is 0, so that both kinds are read alike.
 use Prim.Native.Nat.{ℕ, _*_}
-use mathlib.Core.Path.{_≡_, refl, ap, ap₂, _∙_, subst}
-use mathlib.Core.Bool.{false}
+use native.Mathlib.Nat.{zero-mul}
+use mathlib.Core.Path.{_≡_, refl, sym, ap, ap₂, _∙_, subst}
+use mathlib.Core.Bool.{Bool, true, false, cond, false≢true}
 use mathlib.Core.List.{List}
 use lib.ListN.{length}
+use Rattle.basics.specs.Limits.{largestSize}
 use Rattle.basics.specs.Refusals.{first}
 use Rattle.basics.proofs.RefusalLaws.{accepts}
+use Rattle.grid.specs.Figures.{reach}
 use Rattle.row.specs.RowRule.{none}
 use Rattle.scan.proofs.ScanLaws.{rows-length}
 use Rattle.run.specs.declared.Record.{Record}
 use Rattle.run.specs.Records.{marginOf, areaWidth, areaHeight, areaOf, due, foreign}
-use Rattle.run.specs.Starting.{startRecord, startLevels, erosionRefusals, dilationRefusals, StartsErosion, StartsDilation}
+use Rattle.run.specs.Starting.{startLevels, erosionRefusals, StartsErosion, StartsDilation}
 use Rattle.run.specs.Series.{erosion, dilation}
 use Rattle.run.specs.Demand2.{finished}
 use Rattle.run.proofs.Started.{IsStart, is-start}
+use Rattle.run.proofs.Starts.{judged, erosion-fits}
+use Rattle.filters.specs.declared.Input.{Input}
+use Rattle.filters.specs.declared.judging.Plan.{Plan}
+use Rattle.filters.specs.Filters.{foregroundOf, elementOf}
+use Rattle.filters.specs.Plans.{capOf, startRefusals, firstRecord, firstStart, firstLevels, filtered}
 use Rattle.filters.specs.Back.{Ready}
+use Rattle.filters.proofs.Refusing.{start-taken, no-margin}
+use Rattle.filters.proofs.WayBack.{HoldsBack, opening-back, closing-back}
 
--- an accepted start, its levels finished in a work buffer
-pub erosion-begun : (width height : ℕ) (sheet : List ℕ) (side : ℕ) (bytes lent : List ℕ)
-    → first (erosionRefusals width height sheet side bytes lent) ≡ 0
-    → IsStart (startRecord 1 width height 0 side bytes) (startLevels width height 0 sheet none 0)
-erosion-begun width height sheet side bytes lent z =
-    is-start (erosion width height sheet side bytes lent
-    (accepts (startRecord 1 width height 0 side bytes, startLevels width height 0 sheet none 0) z refl))
+-- the sizes that the way back may be taken for: those of an opening, or those up to the cap
+abbrev pub lastSize : Plan → ℕ
+lastSize plan = cond (plan .closing) (plan .size) largestSize
 
-pub dilation-begun : (width height : ℕ) (sheet : List ℕ) (side : ℕ) (bytes : List ℕ) (cap : ℕ) (lent : List ℕ)
-    → first (dilationRefusals width height sheet side bytes cap lent) ≡ 0
-    → IsStart (startRecord 2 width height cap side bytes) (startLevels width height (marginOf cap side) sheet 1 none)
-dilation-begun width height sheet side bytes cap lent z =
-    is-start (dilation width height sheet side bytes cap lent
-    (accepts (startRecord 2 width height cap side bytes, startLevels width height (marginOf cap side) sheet 1 none) z refl))
+module _ (input : Input) (sheet bytes lent : List ℕ) where
+  abbrev planOf : Bool → ℕ → Bool → Plan
+  planOf closing size packed = record { closing = closing; size = size; packed = packed }
 
-pub finished-size : {r : Record} {begun : List ℕ} → IsStart r begun → length (finished r begun) ≡ areaHeight r * areaWidth r
-finished-size {r} {begun} s = rows-length (areaOf r) 0 (due r) begun ∙ s .size
+  abbrev Accepts : Plan → Type 0
+  Accepts plan = first (startRefusals input sheet bytes plan (length lent)) ≡ 0
 
-pub first-ready : {r : Record} {begun : List ℕ} → IsStart r begun → {run : Record} {levels : List ℕ}
-    → (run ≡ r) × (levels ≡ finished r begun) → {second : List ℕ} → length second ≡ areaHeight r * areaWidth r
-    → Ready run levels second
-first-ready s (p, q) e = rw (p, q) (record { taken = s .taken; first-size = finished-size s; second-size = e })
+  abbrev Begun : Plan → Record → List ℕ → Type 0
+  Begun plan run levels = (run ≡ firstRecord input bytes plan) × (levels ≡ firstStart input sheet plan)
 
--- what finishing a started run asks
-fresh : {r : Record} {levels : List ℕ} → IsStart r levels
-    → (foreign r ≡ false) × ((r .rows ≡ 0) × (length levels ≡ areaHeight r * areaWidth r))
-fresh s = (s .taken, (s .fresh, s .size))
+  -- an erosion accepts what an opening has accepted
+  erosion-taken : (size : ℕ) (packed : Bool) → Accepts (planOf false size packed)
+      → first (erosionRefusals (input .width) (input .height) sheet (input .side) bytes lent) ≡ 0
+  erosion-taken size packed z =
+      let t = start-taken input sheet bytes (planOf false size packed) (length lent) z in
+      sym (erosion-fits (input .width) (input .height) sheet (input .side) bytes lent (t .common)
+      (t .work-size ∙ ap₂ (λ h w. h * w) (no-margin (input .side) (input .height)) (no-margin (input .side) (input .width))))
 
--- and what it gives
-given : {r start : Record} {levels begun after : List ℕ} → _≡_ {A = Record × List ℕ} (r, levels) (start, begun)
-    → after ≡ finished r levels → (r ≡ start) × (after ≡ finished start begun)
-given q h = (ap (λ t. t .0) q, h ∙ ap₂ finished (ap (λ t. t .0) q) (ap (λ t. t .1) q))
+  frame-start : {levels : List ℕ} → levels ≡ startLevels (input .width) (input .height) 0 sheet none 0
+      → levels ≡ startLevels (input .width) (input .height) (marginOf 0 (input .side)) sheet none 0
+  frame-start e = e ∙ ap (λ m. startLevels (input .width) (input .height) m sheet none 0) (sym (zero-mul (reach (input .side))))
 
-module _ (width height : ℕ) (sheet : List ℕ) (side : ℕ) (bytes lent : List ℕ)
-    (z : first (erosionRefusals width height sheet side bytes lent) ≡ 0)
-    {number : ℕ} {run : Record} {levels : List ℕ}
-    (a : StartsErosion width height sheet side bytes lent number (run, levels)) where
-  pub erosion-fresh : (foreign run ≡ false) × ((run .rows ≡ 0) × (length levels ≡ areaHeight run * areaWidth run))
-  erosion-fresh = fresh (is-start
-      (erosion width height sheet side bytes lent
-      (subst (λ n. StartsErosion width height sheet side bytes lent n (run, levels)) (a .refusal ∙ z) a)))
+  module _ (plan : Plan) (z : Accepts plan) {number : ℕ} {run : Record} {levels : List ℕ} where
+    pub dilation-begun : plan .closing ≡ true
+        → StartsDilation (input .width) (input .height) sheet (input .side) bytes (capOf plan) lent number (run, levels)
+        → Begun plan run levels
+    dilation-begun e = go (plan .closing) e z
+      where
+        go : (t : Bool) → t ≡ true → Accepts (planOf t (plan .size) (plan .packed))
+            → StartsDilation (input .width) (input .height) sheet (input .side) bytes
+            (capOf (planOf t (plan .size) (plan .packed))) lent
+            number (run, levels)
+            → Begun (planOf t (plan .size) (plan .packed)) run levels
+        go true e z a = let q = a .accepted (a .refusal ∙ z) in (ap (λ t. t .0) q, ap (λ t. t .1) q)
+        go false e z a = absurd (false≢true e)
 
-  pub erosion-given : {after : List ℕ} → after ≡ finished run levels
-      → (run ≡ startRecord 1 width height 0 side bytes) ×
-      (after ≡ finished (startRecord 1 width height 0 side bytes) (startLevels width height 0 sheet none 0))
-  erosion-given = given (a .accepted (a .refusal ∙ z))
+    pub erosion-begun : plan .closing ≡ false
+        → StartsErosion (input .width) (input .height) sheet (input .side) bytes lent number (run, levels)
+        → Begun plan run levels
+    erosion-begun e = go (plan .closing) e z
+      where
+        go : (t : Bool) → t ≡ false → Accepts (planOf t (plan .size) (plan .packed))
+            → StartsErosion (input .width) (input .height) sheet (input .side) bytes lent number (run, levels)
+            → Begun (planOf t (plan .size) (plan .packed)) run levels
+        go true e z a = absurd (false≢true (sym e))
+        go false e z a =
+            let q = a .accepted (a .refusal ∙ erosion-taken (plan .size) (plan .packed) z) in
+            (ap (λ t. t .0) q, frame-start (ap (λ t. t .1) q))
 
-module _ (width height : ℕ) (sheet : List ℕ) (side : ℕ) (bytes : List ℕ) (cap : ℕ) (lent : List ℕ)
-    (z : first (dilationRefusals width height sheet side bytes cap lent) ≡ 0)
-    {number : ℕ} {run : Record} {levels : List ℕ}
-    (a : StartsDilation width height sheet side bytes cap lent number (run, levels)) where
-  pub dilation-fresh : (foreign run ≡ false) × ((run .rows ≡ 0) × (length levels ≡ areaHeight run * areaWidth run))
-  dilation-fresh = fresh (is-start
-      (dilation width height sheet side bytes cap lent
-      (subst (λ n. StartsDilation width height sheet side bytes cap lent n (run, levels)) (a .refusal ∙ z) a)))
+  -- it is a run that a start gives
+  pub first-start : (plan : Plan) → Accepts plan → IsStart (firstRecord input bytes plan) (firstStart input sheet plan)
+  first-start plan = go (plan .closing) (plan .size) (plan .packed)
+    where
+      go : (closing : Bool) (size : ℕ) (packed : Bool) → Accepts (planOf closing size packed)
+          → IsStart (firstRecord input bytes (planOf closing size packed)) (firstStart input sheet (planOf closing size packed))
+      go true size packed z =
+          is-start (dilation (input .width) (input .height) sheet (input .side) bytes
+          (capOf (planOf true size packed)) lent (accepts _ z refl))
+      go false size packed z =
+          subst (IsStart _) (frame-start refl)
+          (is-start (erosion (input .width) (input .height) sheet (input .side) bytes lent
+          (accepts _ (erosion-taken size packed z) refl)))
 
-  pub dilation-given : {after : List ℕ} → after ≡ finished run levels
-      → (run ≡ startRecord 2 width height cap side bytes) ×
-      (after ≡ finished (startRecord 2 width height cap side bytes) (startLevels width height (marginOf cap side) sheet 1 none))
-  dilation-given = given (a .accepted (a .refusal ∙ z))
+  module _ (plan : Plan) (z : Accepts plan) where
+    abbrev r : Record
+    r = firstRecord input bytes plan
+
+    abbrev levels : List ℕ
+    levels = firstLevels input sheet bytes plan
+
+    -- what finishing it asks, and gives
+    pub first-fresh : {run : Record} {begun : List ℕ} → Begun plan run begun
+        → (foreign run ≡ false) × ((run .rows ≡ 0) × (length begun ≡ areaHeight run * areaWidth run))
+    first-fresh (p, q) = let s = first-start plan z in rw (p, q) (s .taken, (s .fresh, s .size))
+
+    pub first-finished : {run : Record} {begun after : List ℕ} → Begun plan run begun → after ≡ finished run begun
+        → (run ≡ r) × (after ≡ levels)
+    first-finished (p, q) h = (p, h ∙ ap₂ finished p q)
+
+    pub first-size : length levels ≡ areaHeight r * areaWidth r
+    first-size = let s = first-start plan z in rows-length (areaOf r) 0 (due r) (firstStart input sheet plan) ∙ s .size
+
+    pub first-ready : {run : Record} {given second : List ℕ} → (run ≡ r) × (given ≡ levels)
+        → length second ≡ areaHeight r * areaWidth r → Ready run given second
+    first-ready (p, q) e = rw (p, q) (record { taken = first-start plan z .taken; first-size = first-size; second-size = e })
+
+  -- THE WAY BACK FROM IT
+  pub first-holds : (plan : Plan) → Accepts plan
+      → HoldsBack (firstRecord input bytes plan) (firstLevels input sheet bytes plan) (lastSize plan)
+      (filtered (plan .closing) (foregroundOf input sheet) (elementOf input bytes))
+  first-holds plan z = go (plan .closing) (plan .size) (plan .packed) z
+    where
+      go : (closing : Bool) (size : ℕ) (packed : Bool) → Accepts (planOf closing size packed)
+          → HoldsBack (firstRecord input bytes (planOf closing size packed))
+          (firstLevels input sheet bytes (planOf closing size packed)) (lastSize (planOf closing size packed))
+          (filtered closing (foregroundOf input sheet) (elementOf input bytes))
+      go true size packed z =
+          let plan = planOf true size packed in
+          let j = judged (input .width) (input .height) sheet (input .side) bytes
+          (start-taken input sheet bytes plan (length lent) z .common) in
+          closing-back (input .width) (input .height) sheet (input .side) bytes (j .element) (capOf plan)
+          (first-start plan z .taken)
+      go false size packed z =
+          let plan = planOf false size packed in
+          let j = judged (input .width) (input .height) sheet (input .side) bytes
+          (start-taken input sheet bytes plan (length lent) z .common) in
+          opening-back (input .width) (input .height) sheet (input .side) bytes (j .element) (first-start plan z .taken)

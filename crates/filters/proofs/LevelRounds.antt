@@ -1,6 +1,8 @@
 -- Going through the sizes finds the levels: upwards the last size that holds a point stands, downwards the first.
--- Both directions take the same step, over any two facts about a level that a held and a passed size lead from one to the other.
-use Prim.Native.Nat.{ℕ, zero, suc, _+_, _*_, _≤_, _<_}
+-- Both directions take the same step, over any two facts about a level that a held and a passed size lead from one to the
+-- other.
+use Prim.Native.Nat.{ℕ, zero, suc, _+_, _-_, _*_, _≤_, _<_}
+use native.Mathlib.Nat.{le-refl}
 use native.Mathlib.Numerals.{add-one}
 use native.Mathlib.Omega.{arith}
 use mathlib.Core.Path.{_≡_, refl, sym, _∙_, subst}
@@ -17,7 +19,7 @@ use Rattle.sheet.specs.Means.{LevelsMean}
 use Rattle.run.specs.declared.Record.{Record}
 use Rattle.run.specs.Pictures.{frameLevel, isHeldAt}
 use Rattle.filters.specs.Filters.{AreLevels}
-use Rattle.filters.specs.Back.{back, wayBack, stored, rising, falling}
+use Rattle.filters.specs.Back.{back, wayBack, stored, sizeAt, storedBy}
 use Rattle.filters.proofs.WayBack.{HoldsBack}
 use Rattle.filters.proofs.Sizes.{LastBelow, last-start, last-held, last-passed, last-end, FirstFrom, first-start}
 use Rattle.filters.proofs.Sizes.{first-held, first-passed, first-end}
@@ -57,52 +59,58 @@ module _ (r : Record) (levels : List ℕ) (limit : ℕ) (F : ℕ → PointSet) (
       (sym (getD-replicate size (row * r .width + col) 0 0 (entry-below (r .width) (r .height) row col a b)))
       (h (at (pos row) (pos col)))
 
+  stored-size : (closing : Bool) (count k : ℕ) → length (storedBy closing r levels count k zeros) ≡ size
+  unfolding storedBy
+  stored-size closing count zero = length-replicate size 0
+  stored-size closing count (suc k) =
+      let n = sizeAt closing count k in stored-length r (wayBack r levels n) n (storedBy closing r levels count k zeros)
+
   -- upwards
-  rising-mean : (n : ℕ) → n ≤ limit + 1
-      → LevelsMean (r .width) (r .height) (λ x. LastBelow n (λ j. F j x)) (rising r levels n zeros)
-  unfolding rising
-  rising-mean zero l = blank (λ x. LastBelow 0 (λ j. F j x)) (λ x. last-start (λ j. F j x))
-  rising-mean (suc n) l =
-      round n (omega arith) (λ x. LastBelow n (λ j. F j x)) (λ x. LastBelow (suc n) (λ j. F j x))
-      (λ x m p h. rw (← add-one n) (last-held p h)) (λ x m p h. rw (← add-one n) (last-passed p h)) (rising r levels n zeros)
-      (rising-mean n (omega arith))
+  rising-mean : (count k : ℕ) → k ≤ limit + 1
+      → LevelsMean (r .width) (r .height) (λ x. LastBelow k (λ j. F j x)) (storedBy false r levels count k zeros)
+  unfolding storedBy
+  rising-mean count zero l = blank (λ x. LastBelow 0 (λ j. F j x)) (λ x. last-start (λ j. F j x))
+  rising-mean count (suc k) l =
+      round k (omega arith) (λ x. LastBelow k (λ j. F j x)) (λ x. LastBelow (suc k) (λ j. F j x))
+      (λ x m p h. rw (← add-one k) (last-held p h)) (λ x m p h. rw (← add-one k) (last-passed p h))
+      (storedBy false r levels count k zeros) (rising-mean count k (omega arith))
 
-  rising-length : (n : ℕ) → length (rising r levels n zeros) ≡ size
-  unfolding rising
-  rising-length zero = length-replicate size 0
-  rising-length (suc n) = stored-length r (wayBack r levels n) n (rising r levels n zeros)
-
-  -- where no size from n on holds
-  pub rising-levels : (n : ℕ) → n ≤ limit + 1 → ((j : ℕ) (x : Point) → F j x → j < n)
-      → AreLevels (r .width) (r .height) (λ x. IsLast (λ j. F j x)) (rising r levels n zeros)
-  rising-levels n l bound =
+  -- where no size from the count on holds
+  pub rising-levels : (count : ℕ) → count ≤ limit + 1 → ((j : ℕ) (x : Point) → F j x → j < count)
+      → AreLevels (r .width) (r .height) (λ x. IsLast (λ j. F j x)) (storedBy false r levels count count zeros)
+  rising-levels count l bound =
       record {
-        levels = λ row col a b. last-end (rising-mean n l row col a b) (λ j h. bound j (at (pos row) (pos col)) h);
-        size = rising-length n;
+        levels = λ row col a b. last-end (rising-mean count count l row col a b) (λ j h. bound j (at (pos row) (pos col)) h);
+        size = stored-size false count count;
       }
 
   -- downwards, from the cap
   module _ (R : ℕ) (b : R ≤ limit) where
-    falling-mean : (n : ℕ) → n ≤ R + 1 → (out : List ℕ) → LevelsMean (r .width) (r .height) (λ x. FirstFrom n R (λ j. F j x)) out
-        → LevelsMean (r .width) (r .height) (λ x. FirstFrom 0 R (λ j. F j x)) (falling r levels n out)
-    unfolding falling
-    falling-mean zero l out mean = mean
-    falling-mean (suc n) l out mean =
-        falling-mean n (omega arith) (stored r (wayBack r levels n) n out)
-        (round n (omega arith) (λ x. FirstFrom (suc n) R (λ j. F j x)) (λ x. FirstFrom n R (λ j. F j x))
-        (λ x m p h. first-held (rw (← add-one n) at p) (omega arith) h)
-        (λ x m p h. first-passed (rw (← add-one n) at p) h) out mean)
+    falling-mean : (k : ℕ) → k ≤ R + 1
+        → LevelsMean (r .width) (r .height) (λ x. FirstFrom (R + 1 - k) R (λ j. F j x)) (storedBy true r levels (R + 1) k zeros)
+    unfolding storedBy
+    falling-mean zero l = blank (λ x. FirstFrom (R + 1 - 0) R (λ j. F j x)) (λ x. subst (λ i. FirstFrom i R (λ j. F j x) 0)
+        (let e : R + 1 ≡ R + 1 - 0 = omega arith in e) (first-start R (λ j. F j x)))
+    falling-mean (suc k) l =
+        let n = R + 1 - 1 - k in
+        let e : R + 1 - k ≡ n + 1 = omega arith in
+        let f : n ≡ R + 1 - suc k = omega arith in
+        round n (omega arith) (λ x. FirstFrom (R + 1 - k) R (λ j. F j x)) (λ x. FirstFrom (R + 1 - suc k) R (λ j. F j x))
+        (λ x m p h. subst (λ i. FirstFrom i R (λ j. F j x) (n + 1)) f
+        (first-held (subst (λ i. FirstFrom i R (λ j. F j x) m) e p) (omega arith) h))
+        (λ x m p h. subst (λ i. FirstFrom i R (λ j. F j x) m) f
+        (first-passed (subst (λ i. FirstFrom i R (λ j. F j x) m) e p) h))
+        (storedBy true r levels (R + 1) k zeros) (falling-mean k (omega arith))
 
-    falling-length : (n : ℕ) (out : List ℕ) → length out ≡ size → length (falling r levels n out) ≡ size
-    unfolding falling
-    falling-length zero out e = e
-    falling-length (suc n) out e =
-        falling-length n (stored r (wayBack r levels n) n out) (stored-length r (wayBack r levels n) n out)
-
-    pub falling-levels : AreLevels (r .width) (r .height) (λ x. IsFirst R (λ j. F j x)) (falling r levels (R + 1) zeros)
+    pub falling-levels : AreLevels (r .width) (r .height) (λ x. IsFirst R (λ j. F j x))
+        (storedBy true r levels (R + 1) (R + 1) zeros)
     falling-levels = record {
       levels = λ row col a b. first-end
-          (falling-mean (R + 1) (omega arith) zeros
-          (blank (λ x. FirstFrom (R + 1) R (λ j. F j x)) (λ x. first-start R (λ j. F j x))) row col a b);
-      size = falling-length (R + 1) zeros (length-replicate size 0);
+          (subst (λ i. FirstFrom i R (λ j. F j (at (pos row) (pos col))) (found row col))
+          (let z : R + 1 - (R + 1) ≡ 0 = omega arith in z)
+          (falling-mean (R + 1) (le-refl (R + 1)) row col a b));
+      size = stored-size true (R + 1) (R + 1);
     }
+      where
+        found : ℕ → ℕ → ℕ
+        found row col = getD (storedBy true r levels (R + 1) (R + 1) zeros) (row * r .width + col) 0

@@ -1,188 +1,229 @@
--- What the four calls are refused for, judged once: the sheet and the element, then the call's own 8, then the canvas and the
--- lengths of the buffers.
--- An opening works with a cap of 0, whose canvas is the frame, so that its shorter list gives the same number.
-use Prim.Native.Nat.{ℕ, _*_, _≤_}
+-- What the four calls are refused for, judged once: the input, then the size, then the canvas and the lengths of the buffers.
+-- Each call's own list gives the same number: an opening works with a cap of 0, whose canvas is the frame, so that 9 never
+-- applies.
+use Prim.Native.Nat.{ℕ, _*_, _≤_, _<_}
 use native.Mathlib.Nat.{zero-mul}
 use native.Mathlib.Decide.{ℕ-discrete}
 use native.Mathlib.Omega.{arith}
-use mathlib.Core.Path.{_≡_, refl, sym, ap₂, _∙_}
-use mathlib.Core.Bool.{Bool, true, false, not, _||_}
+use mathlib.Core.Path.{_≡_, refl, sym, ap, _∙_}
+use mathlib.Core.Bool.{Bool, true, false, not, cond, _||_}
 use mathlib.Core.Logic.{_≢_}
 use mathlib.Core.List.{List, [], _∷_, _++_}
-use lib.Dec.{eqb, ltb}
+use lib.Dec.{T, eqb, ltb}
 use lib.ListN.{length}
-use borrow.Author.Tests.{le-ltb, ltb-false, eq-eqb, ne-eqb, eqb-true, not-false}
-use Rattle.basics.proofs.BoundLaws.{neither}
-use Rattle.basics.specs.Refusals.{Refusal, first}
-use Rattle.basics.proofs.RefusalLaws.{judged-first, judged-next, first-refused, first-accepted, first-both}
+use borrow.Author.Tests.{lt-ltb, le-ltb, ltb-false, eq-eqb, ne-eqb, eqb-true, not-false}
+use Rattle.basics.specs.Limits.{longestSide, largestSize, highestCap}
+use Rattle.basics.specs.Refusals.{Refusal, first, Answers}
+use Rattle.basics.proofs.RefusalLaws.{numbered, judged-first, judged-next, first-refused, first-accepted, first-both, passed}
 use Rattle.grid.specs.Figures.{reach}
-use Rattle.element.specs.Elements.{elementRefusals}
-use Rattle.sheet.specs.Sheets.{rowBytes, sheetRefusals}
+use Rattle.sheet.specs.Sheets.{rowBytes}
 use Rattle.run.specs.Records.{marginOf, canvasSide}
-use Rattle.run.specs.Starting.{erosionRefusals, canvasWrong, canvasSize, canvasRefusals, dilationRefusals}
-use Rattle.run.proofs.Starts.{judged, erosion-fits, canvas-fits, canvas-taken, dilation-canvas}
-use Rattle.filters.specs.Back.{roomRefusals, filterRefusals, entriesOf}
+use Rattle.run.specs.Starting.{canvasRefusals}
+use Rattle.run.proofs.Starts.{judged, canvas-taken}
+use Rattle.filters.specs.declared.Input.{Input}
+use Rattle.filters.specs.declared.judging.Plan.{Plan}
+use Rattle.filters.specs.declared.judging.Lengths.{Lengths}
+use Rattle.filters.specs.Filters.{Buffers, inputRefusals, isCanvasWrong, isWorkWrong, isOutWrong, frameSize, closingSize}
+use Rattle.filters.specs.Filters.{Opens, Closes, OpeningLevels, ClosingLevels}
+use Rattle.filters.specs.Plans.{limitOf, capOf, entriesOf, startRefusals, planRefusals, lengthsOf}
+use Rattle.filters.specs.Plans.{SheetAnswered, LevelsAnswered}
 
 -- entries to a row
-pub entries-sheet : (t : Bool) (width n : ℕ) → t ≡ true → n ≡ rowBytes width → width ≤ 4096 → (n ≡ entriesOf t width) × (n ≤ 4096)
+pub entries-sheet : (t : Bool) (width n : ℕ) → t ≡ true → n ≡ rowBytes width → width ≤ 4096
+    → (n ≡ entriesOf t width) × (n ≤ 4096)
 entries-sheet t width n e q l = (rw e q, omega arith)
 
 pub entries-levels : (t : Bool) (width : ℕ) → t ≡ false → width ≤ 4096 → (width ≡ entriesOf t width) × (width ≤ 4096)
 entries-levels t width e l = (rw e, l)
 
--- refusals 9 to 11: those of a canvas whose size both work buffers have, and the output's
-module _ (width height cap side work spare room entries : ℕ) where
-  pub room-canvas : {number : ℕ} → number ≢ 0 → number ≡ first (canvasRefusals width height cap side work)
-      → number ≡ first (roomRefusals width height cap side work spare room entries)
-  room-canvas {number} = go (canvasWrong width height cap side) (eqb work (canvasSize width height cap side))
+module _ (input : Input) (sheet bytes : List ℕ) (plan : Plan) where
+  -- a cap is small wherever 8 does not apply
+  pub cap-small : plan .size ≤ limitOf plan → capOf plan ≤ 2047
+  cap-small = go (plan .closing)
     where
-      go : (a b : Bool) → number ≢ 0 → number ≡ first ((9, a) ∷ (10, not b) ∷ [])
-          → number ≡ first ((9, a) ∷ (10, not b || not (eqb spare (canvasSize width height cap side))) ∷
-          (11, not (eqb room (height * entries))) ∷ [])
-      go true b n e = e
-      go false false n e = e
-      go false true n e = absurd (n e)
+      go : (t : Bool) → plan .size ≤ cond t 2047 4096 → cond t (plan .size) 0 ≤ 2047
+      go true l = l
+      go false l = omega arith
 
-  module _ (z : first (canvasRefusals width height cap side work) ≡ 0) where
-    fits : (canvasSide width (marginOf cap side) ≤ 4096) × (canvasSide height (marginOf cap side) ≤ 4096) ×
-        (work ≡ canvasSize width height cap side)
-    fits = canvas-taken width height cap side work z
+  -- the first run
+  module _ (count : ℕ) where
+    abbrev canvas : List Refusal
+    canvas = canvasRefusals (input .width) (input .height) (capOf plan) (input .side) count
 
-    pub room-spare : spare ≢ work → 10 ≡ first (roomRefusals width height cap side work spare room entries)
-    room-spare n =
-        let t = fits in
-        rw (
-          le-ltb 4096 (canvasSide width (marginOf cap side)) (t .0),
-          le-ltb 4096 (canvasSide height (marginOf cap side)) (t .1),
-          eq-eqb work (canvasSize width height cap side) (t .2),
-          ne-eqb spare (canvasSize width height cap side) (λ e. n (e ∙ sym (t .2))),
-        )
+    pub start-input : {number : ℕ} → number ≢ 0 → number ≡ first (inputRefusals input sheet bytes)
+        → number ≡ first (startRefusals input sheet bytes plan count)
+    start-input n e = judged-first (inputRefusals input sheet bytes) ((8, ltb (limitOf plan) (plan .size)) ∷ canvas) n e
 
-    module _ (same : spare ≡ work) (n : ℕ) (q : n ≡ entries) where
-      pub room-out : room ≢ height * n → 11 ≡ first (roomRefusals width height cap side work spare room entries)
-      room-out f =
-          let t = fits in
-          rw (
-            ← q,
-            le-ltb 4096 (canvasSide width (marginOf cap side)) (t .0),
-            le-ltb 4096 (canvasSide height (marginOf cap side)) (t .1),
-            eq-eqb work (canvasSize width height cap side) (t .2),
-            eq-eqb spare (canvasSize width height cap side) (same ∙ t .2),
-            ne-eqb room (height * n) f,
-          )
+    module _ (z : first (inputRefusals input sheet bytes) ≡ 0) where
+      pub start-size : limitOf plan < plan .size → 8 ≡ first (startRefusals input sheet bytes plan count)
+      start-size l = judged-next (inputRefusals input sheet bytes) ((8, ltb (limitOf plan) (plan .size)) ∷ canvas) tt z
+          (rw (lt-ltb (limitOf plan) (plan .size) l))
 
-      pub room-enough : room ≡ height * n → 0 ≡ first (roomRefusals width height cap side work spare room entries)
-      room-enough f =
-          let t = fits in
-          rw (
-            ← q,
-            le-ltb 4096 (canvasSide width (marginOf cap side)) (t .0),
-            le-ltb 4096 (canvasSide height (marginOf cap side)) (t .1),
-            eq-eqb work (canvasSize width height cap side) (t .2),
-            eq-eqb spare (canvasSize width height cap side) (same ∙ t .2),
-            eq-eqb room (height * n) f,
-          )
+      pub start-canvas : plan .size ≤ limitOf plan → {number : ℕ} → number ≡ first canvas
+          → number ≡ first (startRefusals input sheet bytes plan count)
+      start-canvas l e = judged-next (inputRefusals input sheet bytes) ((8, ltb (limitOf plan) (plan .size)) ∷ canvas) tt z
+          (rw (le-ltb (limitOf plan) (plan .size) l) e)
 
--- what an accepted call has
-pub record Taken (width height : ℕ) (sheet : List ℕ) (side : ℕ) (bytes : List ℕ) (bad : Bool)
-    (cap work spare room entries : ℕ) : Type 0 where
-  pub common : first (sheetRefusals width height sheet ++ elementRefusals side bytes) ≡ 0
-  pub size-good : bad ≡ false
-  pub wide : canvasSide width (marginOf cap side) ≤ 4096
-  pub high : canvasSide height (marginOf cap side) ≤ 4096
-  pub work-size : work ≡ canvasSize width height cap side
-  pub spare-size : spare ≡ canvasSize width height cap side
-  pub room-size : room ≡ height * entries
+  -- what an accepted first run has
+  pub record StartTaken (count : ℕ) : Type 0 where
+    pub common : first (inputRefusals input sheet bytes) ≡ 0
+    pub size-good : plan .size ≤ limitOf plan
+    pub wide : canvasSide (input .width) (marginOf (capOf plan) (input .side)) ≤ longestSide
+    pub high : canvasSide (input .height) (marginOf (capOf plan) (input .side)) ≤ longestSide
+    pub work-size : count ≡ closingSize input (capOf plan)
 
-module _ (width height : ℕ) (sheet : List ℕ) (side : ℕ) (bytes : List ℕ) where
-  abbrev both : List Refusal
-  both = sheetRefusals width height sheet ++ elementRefusals side bytes
+  pub start-taken : (count : ℕ) → first (startRefusals input sheet bytes plan count) ≡ 0 → StartTaken count
+  start-taken count z =
+      let p = first-both (inputRefusals input sheet bytes) ((8, ltb (limitOf plan) (plan .size)) ∷ canvas count) tt z in
+      let q = passed 8 (ltb (limitOf plan) (plan .size)) (canvas count) (λ e. absurd (omega arith)) (p .1) in
+      let t = canvas-taken (input .width) (input .height) (capOf plan) (input .side) count (q .1) in
+      record {
+        common = p .0;
+        size-good = ltb-false (limitOf plan) (plan .size) (q .0);
+        wide = t .0;
+        high = t .1;
+        work-size = t .2;
+      }
 
-  module _ (bad : Bool) (cap work spare room entries : ℕ) where
+  -- and the buffers
+  module _ (lent : Lengths) where
+    abbrev start : List Refusal
+    start = startRefusals input sheet bytes plan (lent .first)
+
     abbrev later : List Refusal
-    later = (8, bad) ∷ roomRefusals width height cap side work spare room entries
+    later = (10, not (eqb (lent .second) (closingSize input (capOf plan)))) ∷
+        (11, not (eqb (lent .out) (input .height * entriesOf (plan .packed) (input .width)))) ∷ []
 
-    pub filter-refuses : (number : ℕ) → number ≢ 0 → number ≡ first both
-        → number ≡ first (filterRefusals width height sheet side bytes bad cap work spare room entries)
-    filter-refuses number n e = judged-first both later n e
+    pub plan-start : {number : ℕ} → number ≢ 0 → number ≡ first start
+        → number ≡ first (planRefusals input sheet bytes plan lent)
+    plan-start n e = judged-first start later n e
 
-    module _ (z : first both ≡ 0) where
-      pub filter-size : bad ≡ true → 8 ≡ first (filterRefusals width height sheet side bytes bad cap work spare room entries)
-      filter-size e = judged-next both later tt z (rw e)
+    module _ (z : first start ≡ 0) where
+      area : lent .first ≡ closingSize input (capOf plan)
+      area = start-taken (lent .first) z .work-size
 
-      pub filter-room : bad ≡ false → {number : ℕ} → number ≡ first (roomRefusals width height cap side work spare room entries)
-          → number ≡ first (filterRefusals width height sheet side bytes bad cap work spare room entries)
-      filter-room e h = judged-next both later tt z (rw e h)
+      pub plan-second : lent .second ≢ lent .first → 10 ≡ first (planRefusals input sheet bytes plan lent)
+      plan-second n = judged-next start later tt z
+          (rw (ne-eqb (lent .second) (closingSize input (capOf plan)) (λ e. n (e ∙ sym area))))
 
-    pub taken : first (filterRefusals width height sheet side bytes bad cap work spare room entries) ≡ 0
-        → Taken width height sheet side bytes bad cap work spare room entries
+      module _ (same : lent .second ≡ lent .first) {entries : ℕ} (q : entries ≡ entriesOf (plan .packed) (input .width)) where
+        pub plan-out : lent .out ≢ input .height * entries → 11 ≡ first (planRefusals input sheet bytes plan lent)
+        plan-out n = judged-next start later tt z
+            (rw (
+              ← q,
+              eq-eqb (lent .second) (closingSize input (capOf plan)) (same ∙ area),
+              ne-eqb (lent .out) (input .height * entries) n,
+            ))
+
+        pub plan-fits : lent .out ≡ input .height * entries → 0 ≡ first (planRefusals input sheet bytes plan lent)
+        plan-fits e = judged-next start later tt z
+            (rw (
+              ← q,
+              eq-eqb (lent .second) (closingSize input (capOf plan)) (same ∙ area),
+              eq-eqb (lent .out) (input .height * entries) e,
+            ))
+
+    -- what an accepted call has
+    pub record Taken : Type 0 where
+      pub start : first (startRefusals input sheet bytes plan (lent .first)) ≡ 0
+      pub first-size : lent .first ≡ closingSize input (capOf plan)
+      pub second-size : lent .second ≡ closingSize input (capOf plan)
+      pub out-size : lent .out ≡ input .height * entriesOf (plan .packed) (input .width)
+
+    pub taken : first (planRefusals input sheet bytes plan lent) ≡ 0 → Taken
     taken e =
-        let p = first-both both later tt e in
-        go bad (canvasWrong width height cap side)
-        (not (eqb work (canvasSize width height cap side)) || not (eqb spare (canvasSize width height cap side)))
-        (not (eqb room (height * entries))) refl refl refl refl (p .0) (p .1)
-      where
-        go : (a b c d : Bool) → bad ≡ a → canvasWrong width height cap side ≡ b
-            → not (eqb work (canvasSize width height cap side)) || not (eqb spare (canvasSize width height cap side)) ≡ c
-            → not (eqb room (height * entries)) ≡ d
-            → first both ≡ 0 → first ((8, a) ∷ (9, b) ∷ (10, c) ∷ (11, d) ∷ []) ≡ 0
-            → Taken width height sheet side bytes bad cap work spare room entries
-        go false false false false p q s t z e =
-            let w = neither (ltb 4096 (canvasSide width (marginOf cap side)))
-            (ltb 4096 (canvasSide height (marginOf cap side))) q in
-            let l = neither (not (eqb work (canvasSize width height cap side)))
-            (not (eqb spare (canvasSize width height cap side))) s in
-            record {
-              common = z;
-              size-good = p;
-              wide = ltb-false 4096 (canvasSide width (marginOf cap side)) (w .0);
-              high = ltb-false 4096 (canvasSide height (marginOf cap side)) (w .1);
-              work-size = eqb-true work (canvasSize width height cap side) (not-false _ (l .0));
-              spare-size = eqb-true spare (canvasSize width height cap side) (not-false _ (l .1));
-              room-size = eqb-true room (height * entries) (not-false _ t);
-            }
-        go false false false true p q s t z e = absurd (omega arith)
-        go false false true d p q s t z e = absurd (omega arith)
-        go false true c d p q s t z e = absurd (omega arith)
-        go true b c d p q s t z e = absurd (omega arith)
+        let p = first-both start later tt e in
+        let q = passed 10 (not (eqb (lent .second) (closingSize input (capOf plan))))
+        ((11, not (eqb (lent .out) (input .height * entriesOf (plan .packed) (input .width)))) ∷ []) (λ e. absurd (omega arith))
+        (p .1) in
+        let s = passed 11 (not (eqb (lent .out) (input .height * entriesOf (plan .packed) (input .width)))) []
+        (λ e. absurd (omega arith)) (q .1) in
+        record {
+          start = p .0;
+          first-size = area (p .0);
+          second-size = eqb-true (lent .second) (closingSize input (capOf plan)) (not-false _ (q .0));
+          out-size = eqb-true (lent .out) (input .height * entriesOf (plan .packed) (input .width)) (not-false _ (s .0));
+        }
 
-  -- with a cap of 0 the canvas is the frame
-  pub no-canvas : canvasSize width height 0 side ≡ height * width
-  no-canvas = let z = zero-mul (reach side) in
-      ap₂ (λ h w. h * w) (let e : canvasSide height (marginOf 0 side) ≡ height = omega arith in e)
-      (let e : canvasSide width (marginOf 0 side) ≡ width = omega arith in e)
+-- EACH CALL'S OWN LIST
+-- after the same beginning, ends that give one number do so as a whole
+first-alike : (xs ys zs : List Refusal) → T (numbered xs) → (first xs ≡ 0 → first ys ≡ first zs)
+    → first (xs ++ ys) ≡ first (xs ++ zs)
+first-alike xs ys zs t same = go (ℕ-discrete (first xs) 0)
+  where
+    go : Dec (first xs ≡ 0) → first (xs ++ ys) ≡ first (xs ++ zs)
+    go (no n) = first-refused xs ys n ∙ sym (first-refused xs zs n)
+    go (yes z) = first-accepted xs ys t z ∙ same z ∙ sym (first-accepted xs zs t z)
 
-  -- so 9 never applies, and may be left out of the list
-  pub frame-refusals : (bad : Bool) (work spare room entries : ℕ) (shorter : List Refusal)
-      → first ((8, bad) ∷ (10, not (eqb work (height * width)) || not (eqb spare (height * width))) ∷
-      (11, not (eqb room (height * entries))) ∷ []) ≡ first shorter
-      → first (filterRefusals width height sheet side bytes bad 0 work spare room entries) ≡ first (both ++ shorter)
-  frame-refusals bad work spare room entries shorter same = go (ℕ-discrete (first both) 0)
-    where
-      go : Dec (first both ≡ 0) → first (both ++ later bad 0 work spare room entries) ≡ first (both ++ shorter)
-      go (no n) = first-refused both (later bad 0 work spare room entries) n ∙ sym (first-refused both shorter n)
-      go (yes z) =
-          let j = judged width height sheet side bytes z in
-          let w = j .wide in
-          let h = j .high in
-          let m = zero-mul (reach side) in
-          first-accepted both (later bad 0 work spare room entries) tt z
-          ∙ rw (
-            le-ltb 4096 (canvasSide width (marginOf 0 side)) (omega arith),
-            le-ltb 4096 (canvasSide height (marginOf 0 side)) (omega arith),
-            no-canvas,
-          ) same
-          ∙ sym (first-accepted both shorter tt z)
+-- with a cap of 0 the canvas is the frame
+pub no-margin : (side length : ℕ) → canvasSide length (marginOf 0 side) ≡ length
+no-margin side length = let z = zero-mul (reach side) in omega arith
 
-  -- the starts accept what a call has accepted
-  pub erosion-accepts : {bad : Bool} {spare room entries : ℕ} (lent : List ℕ)
-      → Taken width height sheet side bytes bad 0 (length lent) spare room entries
-      → first (erosionRefusals width height sheet side bytes lent) ≡ 0
-  erosion-accepts lent t = sym (erosion-fits width height sheet side bytes lent (t .common) (t .work-size ∙ no-canvas))
+-- two entries of one number are one
+one-entry : (a b : Bool) (n rest : ℕ) → cond a n (cond b n rest) ≡ cond (a || b) n rest
+one-entry true b n rest = refl
+one-entry false b n rest = refl
 
-  pub dilation-accepts : {cap spare room entries : ℕ} (lent : List ℕ)
-      → Taken width height sheet side bytes (ltb 2047 cap) cap (length lent) spare room entries
-      → first (dilationRefusals width height sheet side bytes cap lent) ≡ 0
-  dilation-accepts {cap} lent t =
-      sym (dilation-canvas width height sheet side bytes cap lent (t .common) (ltb-false 2047 cap (t .size-good))
-      (canvas-fits width height cap side (length lent) (marginOf cap side) refl (t .wide) (t .high) (t .work-size)))
+-- an answer by one list is an answer by another that gives the same number
+pub answers-alike : {A : Type 0} {xs ys : List Refusal} {kept : A} {Right : A → Type 0} {number : ℕ} {after : A}
+    → first xs ≡ first ys → Answers xs kept Right number after → Answers ys kept Right number after
+answers-alike e a = record { refusal = a .refusal ∙ e; accepted = a .accepted; refused = a .refused }
+
+module _ (input : Input) (sheet bytes : List ℕ) (size : ℕ) (packed : Bool) (lent : Buffers) where
+  abbrev work : ℕ → List Refusal
+  work area = (10, isWorkWrong area lent) ∷ (11, isOutWrong (input .height * entriesOf packed (input .width)) lent) ∷ []
+
+  -- the judge's two entries of 10, for buffers of a size
+  abbrev both : ℕ → List Refusal
+  both area = (10, not (eqb (length (lent .first)) area)) ∷ (10, not (eqb (length (lent .second)) area)) ∷
+      (11, isOutWrong (input .height * entriesOf packed (input .width)) lent) ∷ []
+
+  joined : (area : ℕ) → first (both area) ≡ first (work area)
+  joined area = one-entry (not (eqb (length (lent .first)) area)) (not (eqb (length (lent .second)) area)) 10 _
+
+  pub closing-list : first
+      (planRefusals input sheet bytes (record { closing = true; size = size; packed = packed }) (lengthsOf lent))
+      ≡ first (inputRefusals input sheet bytes ++
+      (8, ltb highestCap size) ∷ (9, isCanvasWrong input size) ∷ work (closingSize input size))
+  closing-list =
+      first-alike (inputRefusals input sheet bytes)
+      ((8, ltb highestCap size) ∷ (9, isCanvasWrong input size) ∷ both (closingSize input size))
+      ((8, ltb highestCap size) ∷ (9, isCanvasWrong input size) ∷ work (closingSize input size)) tt
+      (λ _. ap (λ n. cond (ltb highestCap size) 8 (cond (isCanvasWrong input size) 9 n)) (joined (closingSize input size)))
+
+  pub opening-list : first
+      (planRefusals input sheet bytes (record { closing = false; size = size; packed = packed }) (lengthsOf lent))
+      ≡ first (inputRefusals input sheet bytes ++ (8, ltb largestSize size) ∷ work (frameSize input))
+  opening-list =
+      first-alike (inputRefusals input sheet bytes)
+      ((8, ltb largestSize size) ∷ (9, isCanvasWrong input 0) ∷ both (closingSize input 0))
+      ((8, ltb largestSize size) ∷ work (frameSize input)) tt
+      (λ z. let j = judged (input .width) (input .height) sheet (input .side) bytes z in
+      rw (
+        no-margin (input .side) (input .width),
+        no-margin (input .side) (input .height),
+        le-ltb longestSide (input .width) (j .wide .1),
+        le-ltb longestSide (input .height) (j .high .1),
+      ) (ap (λ n. cond (ltb largestSize size) 8 n) (joined (frameSize input))))
+
+-- THE FOUR CALLS: the answer to the plan is the call's
+module _ (input : Input) (sheet bytes : List ℕ) where
+  pub open-answered : (size : ℕ) (lent : Buffers) {number : ℕ} {after : Buffers}
+      → SheetAnswered input sheet bytes (record { closing = false; size = size; packed = true }) lent number after
+      → Opens input sheet bytes size lent number after
+  open-answered size lent = answers-alike (opening-list input sheet bytes size true lent)
+
+  pub close-answered : (size : ℕ) (lent : Buffers) {number : ℕ} {after : Buffers}
+      → SheetAnswered input sheet bytes (record { closing = true; size = size; packed = true }) lent number after
+      → Closes input sheet bytes size lent number after
+  close-answered size lent = answers-alike (closing-list input sheet bytes size true lent)
+
+  pub opening-answered : (lent : Buffers) {number : ℕ} {after : Buffers}
+      → LevelsAnswered input sheet bytes (record { closing = false; size = 0; packed = false }) lent number after
+      → OpeningLevels input sheet bytes lent number after
+  opening-answered lent = answers-alike (opening-list input sheet bytes 0 false lent)
+
+  pub closing-answered : (cap : ℕ) (lent : Buffers) {number : ℕ} {after : Buffers}
+      → LevelsAnswered input sheet bytes (record { closing = true; size = cap; packed = false }) lent number after
+      → ClosingLevels input sheet bytes cap lent number after
+  closing-answered cap lent = answers-alike (closing-list input sheet bytes cap false lent)

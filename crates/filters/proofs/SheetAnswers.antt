@@ -1,33 +1,28 @@
--- The answers of opening and closing by a size: each refusal, and that the sheet kept after the way back is the set's.
+-- The answers of opening and closing by a size: the sheet kept after the way back is the set's.
 use Prim.Native.Nat.{ℕ, _*_, _≤_}
-use native.Mathlib.Nat.{zero-mul, le-refl}
+use native.Mathlib.Nat.{le-refl}
 use native.Mathlib.Omega.{arith}
-use mathlib.Core.Path.{_≡_, refl, sym, ap, _∙_, subst}
+use mathlib.Core.Path.{_≡_, refl, sym, ap, _∙_}
 use mathlib.Core.Bool.{Bool, true, false, cond}
-use mathlib.Core.Logic.{_≢_}
-use mathlib.Core.List.{List, [], _∷_}
-use lib.Dec.{ltb}
+use mathlib.Core.List.{List}
 use lib.ListN.{length, replicate}
-use borrow.Author.Tests.{ltb-false}
+use Rattle.basics.specs.Limits.{largestSize, highestCap}
 use Rattle.basics.specs.Refusals.{first}
-use Rattle.basics.proofs.RefusalLaws.{refuses, accepts}
-use Rattle.grid.specs.Sets.{PointSet, opened, closed}
-use Rattle.grid.specs.Figures.{reach}
-use Rattle.element.specs.Elements.{elementSet}
-use Rattle.sheet.specs.Sheets.{rowBytes, foreground}
-use Rattle.row.specs.RowRule.{none}
+use Rattle.basics.proofs.RefusalLaws.{accepts}
+use Rattle.grid.specs.Sets.{PointSet}
+use Rattle.sheet.specs.Sheets.{rowBytes}
 use Rattle.run.specs.declared.Record.{Record}
-use Rattle.run.specs.Records.{marginOf, areaWidth, areaHeight}
-use Rattle.run.specs.Starting.{startRecord, startLevels, erosionRefusals, dilationRefusals}
 use Rattle.run.specs.Pictures.{frameLevel, isHeldAt}
-use Rattle.run.specs.Demand2.{finished}
-use Rattle.run.proofs.Started.{IsStart}
-use Rattle.run.proofs.Starts.{judged}
-use Rattle.filters.specs.Filters.{Buffers, Cleared, IsSheet, workWrong, sheetWrong, openRefusals, Opens, Closes}
-use Rattle.filters.specs.Back.{back, wayBack, keptSheet, Ready, filterRefusals}
-use Rattle.filters.proofs.WayBack.{HoldsBack, opening-back, closing-back}
-use Rattle.filters.proofs.FirstRuns.{erosion-begun, dilation-begun, finished-size, first-ready}
-use Rattle.filters.proofs.Refusing.{Taken, taken, frame-refusals, erosion-accepts, dilation-accepts}
+use Rattle.filters.specs.declared.Input.{Input}
+use Rattle.filters.specs.declared.judging.Plan.{Plan}
+use Rattle.filters.specs.Filters.{Buffers, Cleared, IsSheet, foregroundOf, elementOf}
+use Rattle.filters.specs.Plans.{limitOf, entriesOf, startRefusals, planRefusals, lengthsOf, firstRecord, firstLevels}
+use Rattle.filters.specs.Plans.{filtered}
+use Rattle.filters.specs.Plans.{SheetAnswered}
+use Rattle.filters.specs.Back.{back, wayBack, keptSheet, Ready}
+use Rattle.filters.proofs.WayBack.{HoldsBack}
+use Rattle.filters.proofs.FirstRuns.{lastSize, first-size, first-ready, first-holds}
+use Rattle.filters.proofs.Refusing.{Taken, taken, start-taken}
 use Rattle.filters.proofs.Uniqueness.{packed-sheet}
 
 -- the sheet kept is the set's
@@ -52,134 +47,63 @@ kept-sheet r levels limit n F holds l out e =
     is true e = refl
     is false e = absurd (omega arith)
 
--- what stands in the buffers after an accepted call is right
-module _ {r : Record} {begun : List ℕ} (s : IsStart r begun) {run : Record} {levels : List ℕ}
-    (p : (run ≡ r) × (levels ≡ finished r begun)) (lent : Buffers) (size : length (lent .first) ≡ areaHeight r * areaWidth r) where
-  pub cleared : {after : Buffers} → after .first ≡ replicate (length levels) 0 → after .second ≡ replicate (length (lent .second)) 0
-      → Cleared lent after
-  cleared a b = record { first = a ∙ ap (λ n. replicate n 0) (ap length (p .1) ∙ finished-size s ∙ sym size); second = b }
+-- an accepted plan: its first run may be started and is ready, and the buffers are cleared in the end
+module _ (input : Input) (sheet bytes : List ℕ) (plan : Plan) (lent : Buffers) where
+  abbrev Fits : Type 0
+  Fits = first (planRefusals input sheet bytes plan (lengthsOf lent)) ≡ 0
 
-  sheet-ready : (n : ℕ) → n ≤ 4096 → length (lent .second) ≡ areaHeight r * areaWidth r
-      → length (lent .out) ≡ r .height * rowBytes (r .width)
-      → Ready run levels (lent .second) × ((n ≤ 4096) × (length (lent .out) ≡ run .height * rowBytes (run .width)))
-  sheet-ready n l b c = (first-ready s p b, (l, c ∙ ap (λ x. x .height * rowBytes (x .width)) (sym (p .0))))
+  abbrev pub Found : Record → List ℕ → Type 0
+  Found run levels = (run ≡ firstRecord input bytes plan) × (levels ≡ firstLevels input sheet bytes plan)
 
-  sheet-right : (limit n : ℕ) (F : ℕ → PointSet) → HoldsBack r (finished r begun) limit F → n ≤ limit → {after : Buffers}
-      → after .first ≡ replicate (length levels) 0 → after .second ≡ replicate (length (lent .second)) 0
-      → after .out ≡ keptSheet run (wayBack run levels n) n
-      → Cleared lent after × IsSheet (r .width) (r .height) (F n) (after .out)
-  sheet-right limit n F holds l {after} a b e =
-      (cleared a b, kept-sheet r (finished r begun) limit n F holds l (after .out) (rw (p .0, p .1) at e))
+  module _ (z : Fits) where
+    plan-taken : Taken input sheet bytes plan (lengthsOf lent)
+    plan-taken = taken input sheet bytes plan (lengthsOf lent) z
 
-module _ (width height : ℕ) (sheet : List ℕ) (side : ℕ) (bytes : List ℕ) where
-  abbrev A : PointSet
-  A = foreground width height sheet
+    pub plan-starts : first (startRefusals input sheet bytes plan (length (lent .first))) ≡ 0
+    plan-starts = plan-taken .start
 
-  abbrev K : PointSet
-  K = elementSet side bytes
+    pub plan-ready : {run : Record} {levels : List ℕ} → Found run levels → Ready run levels (lent .second)
+    plan-ready p = first-ready input sheet bytes (lent .first) plan plan-starts p (plan-taken .second-size)
 
-  -- the way back from an accepted erosion, and from a dilation
-  pub opening-holds : (lent : List ℕ) {bad : Bool} {spare room entries : ℕ}
-      → Taken width height sheet side bytes bad 0 (length lent) spare room entries
-      → HoldsBack (startRecord 1 width height 0 side bytes)
-      (finished (startRecord 1 width height 0 side bytes) (startLevels width height 0 sheet none 0)) 4096 (opened A K)
-  opening-holds lent t =
-      subst (λ m. HoldsBack (startRecord 1 width height 0 side bytes)
-      (finished (startRecord 1 width height 0 side bytes) (startLevels width height m sheet none 0)) 4096 (opened A K))
-      (zero-mul (reach side))
-      (opening-back width height sheet side bytes (judged width height sheet side bytes (t .common) .element)
-      (erosion-begun width height sheet side bytes lent (erosion-accepts width height sheet side bytes lent t) .taken))
+    -- the output's length, as the run's record has it
+    pub plan-room : (packed : Bool) → plan .packed ≡ packed → {run : Record} {levels : List ℕ} → Found run levels
+        → length (lent .out) ≡ run .height * entriesOf packed (run .width)
+    plan-room packed e p = rw (p .0, ← e) (plan-taken .out-size)
 
-  pub closing-holds : (cap : ℕ) (lent : List ℕ) {spare room entries : ℕ}
-      → Taken width height sheet side bytes (ltb 2047 cap) cap (length lent) spare room entries
-      → HoldsBack (startRecord 2 width height cap side bytes)
-      (finished (startRecord 2 width height cap side bytes) (startLevels width height (marginOf cap side) sheet 1 none)) cap
-      (closed A K)
-  closing-holds cap lent t =
-      closing-back width height sheet side bytes (judged width height sheet side bytes (t .common) .element) cap
-      (dilation-begun width height sheet side bytes cap lent (dilation-accepts width height sheet side bytes lent t) .taken)
+    pub plan-cleared : {run : Record} {levels : List ℕ} → Found run levels → {after : Buffers}
+        → after .first ≡ replicate (length levels) 0 → after .second ≡ replicate (length (lent .second)) 0 → Cleared lent after
+    plan-cleared p a b = record {
+      first = a ∙ ap (λ n. replicate n 0) (ap length (p .1)
+          ∙ first-size input sheet bytes (lent .first) plan plan-starts ∙ sym (plan-taken .first-size));
+      second = b;
+    }
 
-  module _ (size : ℕ) (lent : Buffers) where
-    abbrev openings : ℕ
-    openings = first (filterRefusals width height sheet side bytes (ltb 4096 size) 0 (length (lent .first))
-        (length (lent .second)) (length (lent .out)) (rowBytes width))
+    size-good : plan .size ≤ limitOf plan
+    size-good = start-taken input sheet bytes plan (length (lent .first)) plan-starts .size-good
 
-    -- refusal 9 never applies to an opening
-    open-same : openings ≡ first (openRefusals width height sheet side bytes size lent)
-    open-same = frame-refusals width height sheet side bytes (ltb 4096 size) (length (lent .first)) (length (lent .second))
-        (length (lent .out)) (rowBytes width)
-        ((8, ltb 4096 size) ∷ (10, workWrong (height * width) lent) ∷ (11, sheetWrong width height lent) ∷ []) refl
+    -- a sheet asked for
+    module _ (sheets : plan .packed ≡ true) {run : Record} {levels : List ℕ} (p : Found run levels) where
+      pub sheet-ready : Ready run levels (lent .second) ×
+          ((plan .size ≤ 4096) × (length (lent .out) ≡ run .height * rowBytes (run .width)))
+      sheet-ready = (plan-ready p, (small (plan .closing) size-good, plan-room true sheets p))
+        where
+          small : (t : Bool) → plan .size ≤ cond t highestCap largestSize → plan .size ≤ 4096
+          small true l = omega arith
+          small false l = l
 
-    open-taken : openings ≡ 0
-        → Taken width height sheet side bytes (ltb 4096 size) 0 (length (lent .first)) (length (lent .second))
-        (length (lent .out)) (rowBytes width)
-    open-taken = taken width height sheet side bytes (ltb 4096 size) 0 (length (lent .first)) (length (lent .second))
-        (length (lent .out)) (rowBytes width)
-
-    pub open-refuses : (number : ℕ) → number ≢ 0 → number ≡ openings → Opens width height sheet side bytes size lent number lent
-    open-refuses number n e = refuses number n (e ∙ open-same)
-
-    pub open-started : openings ≡ 0 → first (erosionRefusals width height sheet side bytes (lent .first)) ≡ 0
-    open-started z = erosion-accepts width height sheet side bytes (lent .first) (open-taken z)
-
-    pub open-ready : openings ≡ 0 → {run : Record} {levels : List ℕ}
-        → (run ≡ startRecord 1 width height 0 side bytes) ×
-        (levels ≡ finished (startRecord 1 width height 0 side bytes) (startLevels width height 0 sheet none 0))
-        → Ready run levels (lent .second) × ((size ≤ 4096) × (length (lent .out) ≡ run .height * rowBytes (run .width)))
-    open-ready z p =
-        let t = open-taken z in
-        sheet-ready (erosion-begun width height sheet side bytes (lent .first) (open-started z)) p lent (t .work-size) size
-        (ltb-false 4096 size (t .size-good)) (t .spare-size) (t .room-size)
-
-    pub open-accepts : openings ≡ 0 → {run : Record} {levels : List ℕ}
-        → (run ≡ startRecord 1 width height 0 side bytes) ×
-        (levels ≡ finished (startRecord 1 width height 0 side bytes) (startLevels width height 0 sheet none 0))
-        → (after : Buffers) → after .first ≡ replicate (length levels) 0 → after .second ≡ replicate (length (lent .second)) 0
-        → after .out ≡ keptSheet run (wayBack run levels size) size
-        → Opens width height sheet side bytes size lent 0 after
-    open-accepts z p after a b e =
-        let t = open-taken z in
-        let s = erosion-begun width height sheet side bytes (lent .first) (open-started z) in
-        accepts after (sym open-same ∙ z)
-        (sheet-right s p lent (t .work-size) 4096 size (opened A K) (opening-holds (lent .first) t)
-        (ltb-false 4096 size (t .size-good)) a b e)
-
-    abbrev closings : ℕ
-    closings = first (filterRefusals width height sheet side bytes (ltb 2047 size) size (length (lent .first))
-        (length (lent .second)) (length (lent .out)) (rowBytes width))
-
-    close-taken : closings ≡ 0
-        → Taken width height sheet side bytes (ltb 2047 size) size (length (lent .first)) (length (lent .second))
-        (length (lent .out)) (rowBytes width)
-    close-taken = taken width height sheet side bytes (ltb 2047 size) size (length (lent .first)) (length (lent .second))
-        (length (lent .out)) (rowBytes width)
-
-    pub close-refuses : (number : ℕ) → number ≢ 0 → number ≡ closings → Closes width height sheet side bytes size lent number lent
-    close-refuses number n e = refuses number n e
-
-    pub close-started : closings ≡ 0 → first (dilationRefusals width height sheet side bytes size (lent .first)) ≡ 0
-    close-started z = dilation-accepts width height sheet side bytes (lent .first) (close-taken z)
-
-    pub close-ready : closings ≡ 0 → {run : Record} {levels : List ℕ}
-        → (run ≡ startRecord 2 width height size side bytes) ×
-        (levels ≡ finished (startRecord 2 width height size side bytes)
-        (startLevels width height (marginOf size side) sheet 1 none))
-        → Ready run levels (lent .second) × ((size ≤ 4096) × (length (lent .out) ≡ run .height * rowBytes (run .width)))
-    close-ready z p =
-        let t = close-taken z in
-        let l = ltb-false 2047 size (t .size-good) in
-        sheet-ready (dilation-begun width height sheet side bytes size (lent .first) (close-started z)) p lent (t .work-size) size
-        (omega arith) (t .spare-size) (t .room-size)
-
-    pub close-accepts : closings ≡ 0 → {run : Record} {levels : List ℕ}
-        → (run ≡ startRecord 2 width height size side bytes) ×
-        (levels ≡ finished (startRecord 2 width height size side bytes)
-        (startLevels width height (marginOf size side) sheet 1 none))
-        → (after : Buffers) → after .first ≡ replicate (length levels) 0 → after .second ≡ replicate (length (lent .second)) 0
-        → after .out ≡ keptSheet run (wayBack run levels size) size
-        → Closes width height sheet side bytes size lent 0 after
-    close-accepts z p after a b e =
-        let t = close-taken z in
-        let s = dilation-begun width height sheet side bytes size (lent .first) (close-started z) in
-        accepts after z (sheet-right s p lent (t .work-size) size size (closed A K) (closing-holds size (lent .first) t)
-        (le-refl size) a b e)
+      pub sheet-answered : (after : Buffers) → after .first ≡ replicate (length levels) 0
+          → after .second ≡ replicate (length (lent .second)) 0
+          → after .out ≡ keptSheet run (wayBack run levels (plan .size)) (plan .size)
+          → SheetAnswered input sheet bytes plan lent 0 after
+      sheet-answered after a b e =
+          accepts after z (
+            plan-cleared p a b,
+            kept-sheet (firstRecord input bytes plan) (firstLevels input sheet bytes plan) (lastSize plan) (plan .size)
+                (filtered (plan .closing) (foregroundOf input sheet) (elementOf input bytes))
+                (first-holds input sheet bytes (lent .first) plan plan-starts) (last (plan .closing) size-good) (after .out)
+                (rw (p .0, p .1) at e),
+          )
+        where
+          last : (t : Bool) → plan .size ≤ cond t highestCap largestSize → plan .size ≤ cond t (plan .size) largestSize
+          last true l = le-refl (plan .size)
+          last false l = l

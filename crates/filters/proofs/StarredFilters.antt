@@ -1,4 +1,5 @@
--- The starred cases through the contracts: a case's sheet and element mean the sets that it draws, so the table's answers, which
+-- The starred cases through the contracts: a case's sheet and element mean the sets that it draws, so the table's answers,
+-- which
 -- hold of those sets, are right by the contract; and what is right is one thing.
 -- That no case is refused, and that its sheet is drawn in 0 and 1, is computed over the whole table.
 use Prim.Native.Nat.{ℕ, _*_, _≤_, _<_}
@@ -34,7 +35,7 @@ use Rattle.run.specs.Starting.{canvasWrong, canvasSize}
 use Rattle.run.specs.StarredRuns.{sheetOf, bytesOf, levelsOf, pictureOf, RunsGive, AfterOneRow}
 use Rattle.run.proofs.StarredRuns.{starred-runs, after-one-row}
 use Rattle.filters.specs.Filters.{Buffers, Cleared, IsSheet, AreLevels, openRefusals, openingRefusals, closingRefusals}
-use Rattle.filters.specs.StarredFilters.{left, Gives, Given, FiltersGive}
+use Rattle.filters.specs.StarredFilters.{left, Gives, inputOf, FilterGives, FiltersGive}
 use Rattle.filters.proofs.Uniqueness.{packed-sheet, sheet-one, levels-one, lent-one}
 
 -- where no refusal applies to buffers that fit, and the answer is right, the contract allows it; and what is right is one thing
@@ -105,7 +106,8 @@ all-taken-dec [] = yes tt
 all-taken-dec (c ∷ rest) = both-dec (both-dec (binary-dec c) (taken-dec c (c .question))) (all-taken-dec rest)
 
 all-taken : AllTaken cases
-unfolding Yes all-taken-dec AllTaken Binary Taken binary-dec taken-dec openNumber closingNumber openingNumber all-below both-dec ℕ-discrete decLe decLt table raster packed packedByte isSideOut isSide anyAbove countSet
+unfolding Yes all-taken-dec AllTaken Binary Taken binary-dec taken-dec openNumber closingNumber openingNumber
+    all-below both-dec ℕ-discrete decLe decLt table raster packed packedByte isSideOut isSide anyAbove countSet
 all-taken = by-test (all-taken-dec cases) tt
 
 -- the table's answers are right by the contract
@@ -147,16 +149,16 @@ module _ (c : Case) (binary : Binary c) where
 
   given : (q : Question) → Taken c q
       → ((row : ℕ) → row < c .height → (col : ℕ) → col < c .width
-      → IsAnswer q (figureOf c) (shapeOf c) (at (pos row) (pos col)) (drawn (c .expected) row col)) → Given q c
+      → IsAnswer q (figureOf c) (shapeOf c) (at (pos row) (pos col)) (drawn (c .expected) row col)) → FilterGives q c
   unfolding Taken openNumber closingNumber openingNumber
   given openingLevels t h =
-      gives (openingRefusals (c .width) (c .height) (sheetOf c) 3 (bytesOf c)) (openingNumber c) (λ lent. refl)
+      gives (openingRefusals (inputOf c) (sheetOf c) (bytesOf c)) (openingNumber c) (λ lent. refl)
       _ (levels-one (c .width) (c .height) _ (λ p m n. last-unique)) _ _ t (are-levels _ (same-answer openingLevels h))
   given (closingLevels R) t h =
-      gives (closingRefusals (c .width) (c .height) (sheetOf c) 3 (bytesOf c) R) (closingNumber c R) (λ lent. refl)
+      gives (closingRefusals (inputOf c) (sheetOf c) (bytesOf c) R) (closingNumber c R) (λ lent. refl)
       _ (levels-one (c .width) (c .height) _ (λ p m n. first-unique)) _ _ t (are-levels _ (same-answer (closingLevels R) h))
   given (openedBy n) t h =
-      gives (openRefusals (c .width) (c .height) (sheetOf c) 3 (bytesOf c) n) (openNumber c n) (λ lent. refl)
+      gives (openRefusals (inputOf c) (sheetOf c) (bytesOf c) n) (openNumber c n) (λ lent. refl)
       _ (sheet-one (c .width) (c .height) _) _ _ t (is-sheet _ (same-answer (openedBy n) h))
   given erosionLevels t h = tt
   given (dilationLevels R) t h = tt

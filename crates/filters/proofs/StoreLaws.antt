@@ -1,12 +1,13 @@
 -- Storing a size at the points that it holds, row by row; and the loops that go through the sizes.
-use Prim.Native.Nat.{ℕ, suc, _+_, _-_, _*_, _≤_, _<_, max}
+use Prim.Native.Nat.{ℕ, _+_, _*_, _≤_, _<_, max}
 use native.Mathlib.Numerals.{add-one}
 use native.Mathlib.Decide.{ℕ-discrete}
 use native.Mathlib.Omega.{arith}
-use mathlib.Core.Path.{_≡_, refl, ap, ap₂, _∙_, fun-ext}
-use mathlib.Core.Bool.{false, cond}
+use mathlib.Core.Path.{_≡_, refl, sym, ap, ap₂, _∙_, fun-ext}
+use mathlib.Core.Bool.{Bool, true, false, cond, false≢true}
 use mathlib.Core.List.{List}
 use lib.ListN.{length, getD, set}
+use Rattle.basics.specs.Limits.{largestSize}
 use Rattle.basics.specs.Tables.{raster}
 use Rattle.basics.proofs.TableLaws.{length-raster}
 use Rattle.row.specs.RowRule.{none}
@@ -15,7 +16,9 @@ use Rattle.run.specs.Records.{isErosion, margin, canvasSide, foreign}
 use Rattle.run.specs.Patches.{Patch, levelIn}
 use Rattle.run.specs.Pictures.{frameLevel, isHeldAt}
 use Rattle.run.proofs.PatchLaws.{patch-none, patch-turn, patch-all, patch-as, Rows, rows-turn}
-use Rattle.filters.specs.Back.{back, wayBack, chosen, stored, rising, falling, Highest, Ready}
+use Rattle.filters.specs.declared.judging.Plan.{Plan}
+use Rattle.filters.specs.Plans.{Bounded, Counted}
+use Rattle.filters.specs.Back.{back, wayBack, chosen, stored, sizeAt, storedBy, Highest, Ready}
 use Rattle.filters.proofs.BackLaws.{back-taken}
 use Rattle.filters.proofs.BackSteps.{chosen-held}
 
@@ -73,75 +76,45 @@ stored-is r other taken is n small low high p q second before m e h =
     (q ∙ ap (λ x. cond (isErosion x) none (n + 1)) is) (n + 1) (getD before (row * r .width + col) 0)
     (frameLevel r second row col))))
 
-pub stored-length : (r : Record) (second : List ℕ) (n : ℕ) (out : List ℕ) → length (stored r second n out) ≡ r .height * r .width
+pub stored-length : (r : Record) (second : List ℕ) (n : ℕ) (out : List ℕ)
+    → length (stored r second n out) ≡ r .height * r .width
 unfolding stored
 stored-length r second n out =
     length-raster (r .width) (r .height)
     (λ row col. cond (isHeldAt (back r) n (frameLevel r second row col)) (n + 1) (getD out (row * r .width + col) 0))
 
--- upwards through the sizes
-pub record Rises (r : Record) (first second out : List ℕ) (count n : ℕ) (again after : List ℕ) : Type 0 where
-  pub below : n ≤ count
+-- through the sizes, step by step
+pub record Steps (closing : Bool) (r : Record) (first out : List ℕ) (count k : ℕ) (again after : List ℕ) : Type 0 where
+  pub below : k ≤ count
   pub given : Ready r first again
   pub room : length after ≡ r .height * r .width
-  pub is : after ≡ rising r first n out
+  pub is : after ≡ storedBy closing r first count k out
 
-pub rises-start : {r : Record} {first second out : List ℕ} {count : ℕ} → Ready r first second → length out ≡ r .height * r .width
-    → Rises r first second out count 0 second out
-unfolding rising
-rises-start g l = record { below = omega arith; given = g; room = l; is = refl }
+pub steps-start : {closing : Bool} {r : Record} {first second out : List ℕ} {count : ℕ} → Ready r first second
+    → length out ≡ r .height * r .width → Steps closing r first out count 0 second out
+unfolding storedBy
+steps-start g l = record { below = omega arith; given = g; room = l; is = refl }
 
-ready-again : {r : Record} {first second again : List ℕ} → Ready r first second → length again ≡ length second
-    → Ready r first again
-ready-again g e = record { taken = g .taken; first-size = g .first-size; second-size = e ∙ g .second-size }
-
-pub rises-turn : {r : Record} {first second out : List ℕ} {count n : ℕ} {again after : List ℕ}
-    → Rises r first second out count n again after → n < count → {next last : List ℕ}
+pub steps-turn : {closing : Bool} {r : Record} {first out : List ℕ} {count k : ℕ} {again after : List ℕ}
+    → Steps closing r first out count k again after → k < count → {n : ℕ} → n ≡ sizeAt closing count k → {next last : List ℕ}
     → (length next ≡ length again) × (last ≡ stored r (wayBack r first n) n after)
-    → Rises r first second out count (n + 1) next last
-unfolding rising
-rises-turn {r} {first} {n = n} {after = after} P l (s, e) = record {
+    → Steps closing r first out count (k + 1) next last
+unfolding storedBy
+steps-turn {closing} {r} {first} {out} {count} {k} {after = after} P l {n} q (s, e) = record {
   below = omega arith;
-  given = ready-again (P .given) s;
+  given = record { taken = P .given .taken; first-size = P .given .first-size; second-size = s ∙ P .given .second-size };
   room = ap length e ∙ stored-length r (wayBack r first n) n after;
-  is = rw add-one (e ∙ ap (stored r (wayBack r first n) n) (P .is));
+  is = rw add-one (e ∙ ap₂ (λ m l. stored r (wayBack r first m) m l) q (P .is));
 }
 
-pub rises-end : {r : Record} {first second out : List ℕ} {count n : ℕ} {again after : List ℕ}
-    → Rises r first second out count n again after → count ≤ n → after ≡ rising r first count out
-rises-end {r} {first} {out = out} {count} {n} P l = P .is
-    ∙ ap (λ k. rising r first k out) (let b = P .below in let e : n ≡ count = omega arith in e)
+pub steps-end : {closing : Bool} {r : Record} {first out : List ℕ} {count k : ℕ} {again after : List ℕ}
+    → Steps closing r first out count k again after → count ≤ k → after ≡ storedBy closing r first count count out
+steps-end {closing} {r} {first} {out} {count} {k} P l = P .is
+    ∙ ap (λ j. storedBy closing r first count j out) (let b = P .below in let e : k ≡ count = omega arith in e)
 
--- downwards
-pub record Falls (r : Record) (first second out : List ℕ) (count n : ℕ) (again after : List ℕ) : Type 0 where
-  pub below : n ≤ count
-  pub given : Ready r first again
-  pub room : length after ≡ r .height * r .width
-  pub left : falling r first n after ≡ falling r first count out
-
-pub falls-start : {r : Record} {first second out : List ℕ} {count : ℕ} → Ready r first second → length out ≡ r .height * r .width
-    → Falls r first second out count count second out
-falls-start g l = record { below = omega arith; given = g; room = l; left = refl }
-
-pub falls-turn : {r : Record} {first second out : List ℕ} {count n : ℕ} {again after : List ℕ}
-    → Falls r first second out count n again after → 0 < n → {next last : List ℕ}
-    → (length next ≡ length again) × (last ≡ stored r (wayBack r first (n - 1)) (n - 1) after)
-    → Falls r first second out count (n - 1) next last
-unfolding falling
-falls-turn {r} {first} {out = out} {count} {n} {after = after} P l {last = last} (s, e) = record {
-  below = let b = P .below in omega arith;
-  given = ready-again (P .given) s;
-  room = ap length e ∙ stored-length r (wayBack r first (n - 1)) (n - 1) after;
-  left = ap (falling r first (n - 1)) e ∙ (let m : n ≡ suc (n - 1) = omega arith in rw (← m) at (same (n - 1))) ∙ P .left;
-}
-  where
-    same : (k : ℕ) → falling r first k (stored r (wayBack r first k) k after) ≡ falling r first (suc k) after
-    same k = refl
-
-pub falls-end : {r : Record} {first second out : List ℕ} {count n : ℕ} {again after : List ℕ}
-    → Falls r first second out count n again after → n ≤ 0 → after ≡ falling r first count out
-unfolding falling
-falls-end {r} {first} {n = n} {after = after} P l = (let z : n ≡ 0 = omega arith in rw z at (P .left))
+pub size-small : (closing : Bool) {count k n : ℕ} → k < count → count ≤ 4096 → n ≡ sizeAt closing count k → n ≤ 4096
+size-small true l m e = omega arith
+size-small false l m e = omega arith
 
 -- the highest level
 pub highest-none : (levels : List ℕ) → Highest levels 0 0
@@ -160,3 +133,19 @@ highest-turn {levels} {k} {m} P l v e = record {
 
 pub highest-all : {levels : List ℕ} {k m : ℕ} → Highest levels k m → length levels ≤ k → Highest levels (length levels) m
 highest-all P l = record { all = λ j i. P .all j (omega arith); least = P .least }
+
+-- how many sizes there are
+pub counted-closing : {plan : Plan} {levels : List ℕ} → plan .closing ≡ true → Counted plan levels (plan .size + 1)
+counted-closing e = record { opening = λ f. absurd (false≢true (sym f ∙ e)); closing = λ _. refl }
+
+pub counted-opening : {plan : Plan} {levels : List ℕ} {count : ℕ} → plan .closing ≡ false → Highest levels (length levels) count
+    → Counted plan levels count
+counted-opening e h = record { opening = λ _. h; closing = λ f. absurd (false≢true (sym e ∙ f)) }
+
+pub count-small : (plan : Plan) {levels : List ℕ} {count : ℕ} → Bounded plan levels → Counted plan levels count
+    → count ≤ largestSize
+count-small plan {levels} {count} b s = go (plan .closing) refl
+  where
+    go : (t : Bool) → plan .closing ≡ t → count ≤ largestSize
+    go true e = let c = s .closing e in let l = b .closing e in omega arith
+    go false e = s .opening e .least largestSize (b .opening e)

@@ -4,70 +4,35 @@ use Prim.Native.Nat.{ℕ, _+_, _*_, _≤_, _<_}
 use native.Mathlib.Decide.{ℕ-discrete}
 use native.Mathlib.Omega.{arith}
 use mathlib.Core.Path.{_≡_, refl, sym, ap, _∙_}
-use mathlib.Core.Bool.{Bool, true, false, cond}
 use mathlib.Core.Logic.{_↔_}
 use mathlib.Core.List.{List}
-use lib.Dec.{ltb}
 use lib.IntN.{pos}
 use lib.ListN.{getD}
-use borrow.Author.Tests.{ltb-true}
 use Rattle.basics.proofs.RefusalLaws.{answers-unique}
-use Rattle.basics.proofs.TableLaws.{getD-raster, raster-is}
+use Rattle.basics.proofs.TableLaws.{raster-is}
 use Rattle.grid.specs.Points.{Point, at}
 use Rattle.grid.specs.Sets.{PointSet}
 use Rattle.grid.proofs.LevelLaws.{last-unique, first-unique}
-use Rattle.sheet.specs.Sheets.{rowBytes, pixel, packedByte, packed}
-use Rattle.sheet.proofs.PixelLaws.{pixel-binary, length-packed, pixel-packed}
+use Rattle.sheet.specs.Sheets.{pixel, packed}
+use Rattle.sheet.proofs.PixelLaws.{pixel-binary, pixel-packed, packed-same}
+use Rattle.filters.specs.declared.Input.{Input}
 use Rattle.filters.specs.Filters.{Buffers, Cleared, IsSheet, AreLevels, Opens, Closes, OpeningLevels, ClosingLevels}
 
--- sheets packed of the same pixels are the same
-bit-same : (width k i : ℕ) (f g : ℕ → ℕ) → ((col : ℕ) → col < width → f col ≡ g col)
-    → cond (ltb (k * 8 + i) width) (f (k * 8 + i)) 0 ≡ cond (ltb (k * 8 + i) width) (g (k * 8 + i)) 0
-bit-same width k i f g same = go (ltb (k * 8 + i) width) refl
-  where
-    go : (t : Bool) → ltb (k * 8 + i) width ≡ t → cond t (f (k * 8 + i)) 0 ≡ cond t (g (k * 8 + i)) 0
-    go true e = same (k * 8 + i) (ltb-true (k * 8 + i) width e)
-    go false e = refl
-
-byte-same : (width k : ℕ) (f g : ℕ → ℕ) → ((col : ℕ) → col < width → f col ≡ g col) → packedByte width f k ≡ packedByte width g k
-unfolding packedByte
-byte-same width k f g same =
-    omega (
-      arith,
-      bit-same width k 0 f g same,
-      bit-same width k 1 f g same,
-      bit-same width k 2 f g same,
-      bit-same width k 3 f g same,
-      bit-same width k 4 f g same,
-      bit-same width k 5 f g same,
-      bit-same width k 6 f g same,
-      bit-same width k 7 f g same,
-    )
-
 module _ (width height : ℕ) where
-  packed-same : (f g : ℕ → ℕ → ℕ) → ((row col : ℕ) → row < height → col < width → f row col ≡ g row col)
-      → packed width height f ≡ packed width height g
-  unfolding packed
-  packed-same f g same =
-      raster-is (rowBytes width) height (λ row k. packedByte width (g row) k) 0 (packed width height f)
-      (length-packed width height f)
-      (λ row k a b. getD-raster (rowBytes width) height (λ row k. packedByte width (f row) k) row k 0 a b
-      ∙ byte-same width k (f row) (g row) (λ col l. same row col a l))
-
   -- the sheet packed of a set's pixels
   pub packed-sheet : (A : PointSet) (f : ℕ → ℕ → ℕ) (out : List ℕ) → out ≡ packed width height f
       → ((row col : ℕ) → row < height → col < width → f row col ≤ 1)
       → ((row col : ℕ) → row < height → col < width → A (at (pos row) (pos col)) ↔ (f row col ≡ 1)) → IsSheet width height A out
   packed-sheet A f out e small is = record {
     pixels = λ row col a b. let i = is row col a b in let p = own row col a b in ((λ h. i .1 (sym p ∙ h)), (λ h. p ∙ i .0 h));
-    padding = e ∙ packed-same f (pixel width out) (λ row col a b. sym (own row col a b));
+    padding = e ∙ packed-same width height f (pixel width out) (λ row col a b. sym (own row col a b));
   }
     where
       own : (row col : ℕ) → row < height → col < width → pixel width out row col ≡ f row col
       own row col a b = ap (λ l. pixel width l row col) e ∙ pixel-packed width height f small row col a b
 
   pub sheet-one : (A : PointSet) (x y : List ℕ) → IsSheet width height A x → IsSheet width height A y → x ≡ y
-  sheet-one A x y p q = p .padding ∙ packed-same (pixel width x) (pixel width y) same ∙ sym (q .padding)
+  sheet-one A x y p q = p .padding ∙ packed-same width height (pixel width x) (pixel width y) same ∙ sym (q .padding)
     where
       same : (row col : ℕ) → row < height → col < width → pixel width x row col ≡ pixel width y row col
       same row col a b =
@@ -101,20 +66,22 @@ lent-one Right one lent x y p q =
     λ i. record { first = a i; second = b i; out = c i }
 
 -- THE FOUR CALLS
-module _ (width height : ℕ) (sheet : List ℕ) (side : ℕ) (bytes : List ℕ) where
-  pub open-unique : (size : ℕ) (lent : Buffers) (m n : ℕ) (x y : Buffers) → Opens width height sheet side bytes size lent m x
-      → Opens width height sheet side bytes size lent n y → (m ≡ n) × (x ≡ y)
-  open-unique size lent = answers-unique (lent-one _ (sheet-one width height _) lent)
+module _ (input : Input) (sheet bytes : List ℕ) where
+  pub open-unique : (size : ℕ) (lent : Buffers) (m n : ℕ) (x y : Buffers) → Opens input sheet bytes size lent m x
+      → Opens input sheet bytes size lent n y → (m ≡ n) × (x ≡ y)
+  open-unique size lent = answers-unique (lent-one _ (sheet-one (input .width) (input .height) _) lent)
 
-  pub close-unique : (size : ℕ) (lent : Buffers) (m n : ℕ) (x y : Buffers) → Closes width height sheet side bytes size lent m x
-      → Closes width height sheet side bytes size lent n y → (m ≡ n) × (x ≡ y)
-  close-unique size lent = answers-unique (lent-one _ (sheet-one width height _) lent)
+  pub close-unique : (size : ℕ) (lent : Buffers) (m n : ℕ) (x y : Buffers) → Closes input sheet bytes size lent m x
+      → Closes input sheet bytes size lent n y → (m ≡ n) × (x ≡ y)
+  close-unique size lent = answers-unique (lent-one _ (sheet-one (input .width) (input .height) _) lent)
 
-  pub opening-levels-unique : (lent : Buffers) (m n : ℕ) (x y : Buffers) → OpeningLevels width height sheet side bytes lent m x
-      → OpeningLevels width height sheet side bytes lent n y → (m ≡ n) × (x ≡ y)
-  opening-levels-unique lent = answers-unique (lent-one _ (levels-one width height _ (λ p m n. last-unique)) lent)
+  pub opening-levels-unique : (lent : Buffers) (m n : ℕ) (x y : Buffers) → OpeningLevels input sheet bytes lent m x
+      → OpeningLevels input sheet bytes lent n y → (m ≡ n) × (x ≡ y)
+  opening-levels-unique lent =
+      answers-unique (lent-one _ (levels-one (input .width) (input .height) _ (λ p m n. last-unique)) lent)
 
   pub closing-levels-unique : (cap : ℕ) (lent : Buffers) (m n : ℕ) (x y : Buffers)
-      → ClosingLevels width height sheet side bytes cap lent m x → ClosingLevels width height sheet side bytes cap lent n y
+      → ClosingLevels input sheet bytes cap lent m x → ClosingLevels input sheet bytes cap lent n y
       → (m ≡ n) × (x ≡ y)
-  closing-levels-unique cap lent = answers-unique (lent-one _ (levels-one width height _ (λ p m n. first-unique)) lent)
+  closing-levels-unique cap lent =
+      answers-unique (lent-one _ (levels-one (input .width) (input .height) _ (λ p m n. first-unique)) lent)

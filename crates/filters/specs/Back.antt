@@ -1,19 +1,17 @@
--- The way back from a finished run: an opening dilates what an erosion left, a closing erodes what a dilation gave, on all of the
+-- The way back from a finished run: an opening dilates what an erosion left, a closing erodes what a dilation gave, on all of
+-- the
 -- area that the run worked on.
-use Prim.Native.Nat.{ℕ, zero, suc, _+_, _*_, _≤_, _<_}
+use Prim.Native.Nat.{ℕ, zero, suc, _+_, _-_, _*_, _≤_, _<_}
 use mathlib.Core.Path.{_≡_}
-use mathlib.Core.Bool.{Bool, false, not, cond, _||_}
-use mathlib.Core.List.{List, [], _∷_, _++_}
+use mathlib.Core.Bool.{Bool, false, cond}
+use mathlib.Core.List.{List}
 use lib.Dec.{eqb}
-use lib.ListN.{length, getD, replicate}
-use Rattle.basics.specs.Refusals.{Refusal}
+use lib.ListN.{length, getD}
 use Rattle.basics.specs.Tables.{table, raster}
-use Rattle.element.specs.Elements.{elementRefusals}
-use Rattle.sheet.specs.Sheets.{rowBytes, packed, sheetRefusals}
+use Rattle.sheet.specs.Sheets.{packed}
 use Rattle.row.specs.RowRule.{none}
 use Rattle.run.specs.declared.Record.{Record}
 use Rattle.run.specs.Records.{isErosion, areaWidth, areaHeight, foreign}
-use Rattle.run.specs.Starting.{canvasWrong, canvasSize}
 use Rattle.run.specs.Patches.{heldBetween}
 use Rattle.run.specs.Pictures.{frameLevel, isHeldAt}
 use Rattle.run.specs.Demand2.{finished}
@@ -55,25 +53,20 @@ stored r second n out =
     raster (r .width) (r .height)
     (λ row col. cond (isHeldAt (back r) n (frameLevel r second row col)) (n + 1) (getD out (row * r .width + col) 0))
 
--- so for the sizes 0 to n - 1, upwards and downwards
-unfoldable pub rising : Record → List ℕ → ℕ → List ℕ → List ℕ
-rising r levels zero out = out
-rising r levels (suc n) out = stored r (wayBack r levels n) n (rising r levels n out)
+-- the size taken in step k of `count`: an opening goes up from 0, a closing down to 0
+abbrev pub sizeAt : Bool → ℕ → ℕ → ℕ
+sizeAt closing count k = cond closing (count - 1 - k) k
 
-unfoldable pub falling : Record → List ℕ → ℕ → List ℕ → List ℕ
-falling r levels zero out = out
-falling r levels (suc n) out = falling r levels n (stored r (wayBack r levels n) n out)
+-- what stands after the first k steps
+unfoldable pub storedBy : Bool → Record → List ℕ → ℕ → ℕ → List ℕ → List ℕ
+storedBy closing r levels count zero out = out
+storedBy closing r levels count (suc k) out =
+    stored r (wayBack r levels (sizeAt closing count k)) (sizeAt closing count k) (storedBy closing r levels count k out)
 
 -- m bounds the first k levels, and is at most every bound of all of them; where k is their count it is the highest
 pub record Highest (levels : List ℕ) (k m : ℕ) : Type 0 where
   pub all : (j : ℕ) → j < k → getD levels j 0 ≤ m
   pub least : (bound : ℕ) → ((j : ℕ) → j < length levels → getD levels j 0 ≤ bound) → m ≤ bound
-
--- all sizes below the highest level, upwards, over levels that are 0
-pub record Risen (r : Record) (first before after : List ℕ) : Type 0 where
-  pub most : ℕ
-  pub highest : Highest first (length first) most
-  pub is : after ≡ rising r first most (replicate (length before) 0)
 
 -- a record that a start could give, and two work buffers of its area's size
 pub record Ready (r : Record) (first second : List ℕ) : Type 0 where
@@ -84,20 +77,3 @@ pub record Ready (r : Record) (first second : List ℕ) : Type 0 where
 -- on where a level is above low and at most high, else off
 abbrev pub chosen : ℕ → ℕ → ℕ → ℕ → ℕ → ℕ
 chosen low high on off level = cond (eqb (heldBetween low high level) 1) on off
-
--- 9 to 11, by the lengths of the buffers lent; the output has `entries` to a row
-abbrev pub roomRefusals : ℕ → ℕ → ℕ → ℕ → ℕ → ℕ → ℕ → ℕ → List Refusal
-roomRefusals width height cap side first second out entries =
-    (9, canvasWrong width height cap side) ∷
-    (10, not (eqb first (canvasSize width height cap side)) || not (eqb second (canvasSize width height cap side))) ∷
-    (11, not (eqb out (height * entries))) ∷ []
-
--- 2 to 11, of all four calls; `bad` says whether the call's own 8 applies
-abbrev pub filterRefusals : ℕ → ℕ → List ℕ → ℕ → List ℕ → Bool → ℕ → ℕ → ℕ → ℕ → ℕ → List Refusal
-filterRefusals width height sheet side bytes bad cap first second out entries =
-    sheetRefusals width height sheet ++
-    (elementRefusals side bytes ++ (8, bad) ∷ roomRefusals width height cap side first second out entries)
-
--- the entries of a row of a packed sheet, or of levels
-abbrev pub entriesOf : Bool → ℕ → ℕ
-entriesOf sheet width = cond sheet (rowBytes width) width

@@ -1,3 +1,4 @@
 pub mod Filters
+pub mod Plans
 pub mod Back
 pub mod StarredFilters

@@ -7,6 +7,7 @@ use lib.ListN.{length, replicate}
 use Rattle.grid.specs.Starred.{Question, erosionLevels, openingLevels, dilationLevels, closingLevels, erodedBy, openedBy, Case}
 use Rattle.run.specs.Starting.{canvasSize}
 use Rattle.run.specs.StarredRuns.{sheetOf, bytesOf, levelsOf, pictureOf}
+use Rattle.filters.specs.declared.Input.{Input}
 use Rattle.filters.specs.Filters.{Buffers, Opens, OpeningLevels, ClosingLevels}
 
 -- buffers of the sizes asked for, whatever they hold
@@ -26,16 +27,20 @@ Gives Contract work answer =
     → Contract lent 0 (left work answer) ×
     ((number : ℕ) (after : Buffers) → Contract lent number after → (number ≡ 0) × (after ≡ left work answer))
 
+-- the elements drawn have a side of 3
+abbrev pub inputOf : Case → Input
+inputOf c = record { width = c .width; height = c .height; side = 3 }
+
 -- so for the opening and closing questions of the table; the others are runs' (StarredRuns of run)
-abbrev pub Given : Question → Case → Type 0
-Given openingLevels c = Gives (OpeningLevels (c .width) (c .height) (sheetOf c) 3 (bytesOf c)) (c .height * c .width) (levelsOf c)
-Given (closingLevels R) c =
-    Gives (ClosingLevels (c .width) (c .height) (sheetOf c) 3 (bytesOf c) R) (canvasSize (c .width) (c .height) R 3) (levelsOf c)
-Given (openedBy n) c = Gives (Opens (c .width) (c .height) (sheetOf c) 3 (bytesOf c) n) (c .height * c .width) (pictureOf c)
-Given erosionLevels c = Unit {0}
-Given (dilationLevels R) c = Unit {0}
-Given (erodedBy n) c = Unit {0}
+abbrev pub FilterGives : Question → Case → Type 0
+FilterGives openingLevels c = Gives (OpeningLevels (inputOf c) (sheetOf c) (bytesOf c)) (c .height * c .width) (levelsOf c)
+FilterGives (closingLevels R) c =
+    Gives (ClosingLevels (inputOf c) (sheetOf c) (bytesOf c) R) (canvasSize (c .width) (c .height) R 3) (levelsOf c)
+FilterGives (openedBy n) c = Gives (Opens (inputOf c) (sheetOf c) (bytesOf c) n) (c .height * c .width) (pictureOf c)
+FilterGives erosionLevels c = Unit {0}
+FilterGives (dilationLevels R) c = Unit {0}
+FilterGives (erodedBy n) c = Unit {0}
 
 abbrev pub FiltersGive : List Case → Type 0
 FiltersGive [] = Unit {0}
-FiltersGive (c ∷ cases) = Given (c .question) c × FiltersGive cases
+FiltersGive (c ∷ cases) = FilterGives (c .question) c × FiltersGive cases

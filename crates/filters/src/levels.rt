@@ -1,14 +1,16 @@
 // Levels by going through the sizes: each size that holds a point is written over what was found before.
 use super::back;
+use super::judging::Plan;
 use run::Record;
 ghost use mathlib.Core.Path.{_≡_};
 ghost use mathlib.Core.Bool.{false};
-ghost use Prim.Native.Nat.{ℕ, _+_, _*_, _≤_, _<_, max};
+ghost use Prim.Native.Nat.{_+_, _*_, _≤_, _<_, max};
 ghost use lib.ListN.{length, getD, replicate};
 ghost use Rattle.basics.specs.Tables.{raster};
 ghost use Rattle.run.specs.Records.{areaWidth, areaHeight, foreign};
 ghost use Rattle.run.specs.Patches.{Patch, Canvas, levelIn};
-ghost use Rattle.filters.specs.Back.{chosen, wayBack, stored, rising, falling, Highest, Risen, Ready};
+ghost use Rattle.filters.specs.Back.{chosen, wayBack, stored, sizeAt, storedBy, Highest, Ready};
+ghost use Rattle.filters.specs.Plans.{Bounded, Counted, AllStored};
 
 // The `n` levels of `out` from `at` on become `value` where those from `from` on are held.
 fn store_row(
@@ -91,27 +93,33 @@ fn one_size(run: Record, size: usize, first: &[u16], second: &mut [u16], out: &m
     store_held(run, size, second, out);
 }
 
-// The sizes below `count`, upwards: the last that holds stands.
-fn rise(run: Record, count: usize, first: &[u16], second: &mut [u16], out: &mut [u16])
-    requires { ⌜ Ready run (now first) (now second) × ((count ≤ 4096) × (length (now out) ≡ run .height * run .width)) ⌝ }
-    ensures { λ _. ⌜ now (out .exit) ≡ rising run (now (first .entry)) count (now (out .entry)) ⌝ }
+// The size that step k of `count` takes: an opening goes up, a closing down, so that the size that must stand is written last.
+fn size_at(closing: bool, count: usize, k: usize) -> usize
+    requires { ⌜ k < count ⌝ }
+    ensures { λ r. ⌜ r ≡ sizeAt closing count k ⌝ }
 {
-    let mut n = 0;
-    while n < count {
-        one_size(run, n, first, second, out);
-        n += 1;
+    if closing {
+        return count - 1 - k;
     }
+    k
 }
 
-// The sizes below `count`, downwards: the first that holds stands.
-fn fall(run: Record, count: usize, first: &[u16], second: &mut [u16], out: &mut [u16])
+// The sizes below `count`, one after the other.
+fn go_through(
+    run: Record,
+    closing: bool,
+    count: usize,
+    first: &[u16],
+    second: &mut [u16],
+    out: &mut [u16],
+)
     requires { ⌜ Ready run (now first) (now second) × ((count ≤ 4096) × (length (now out) ≡ run .height * run .width)) ⌝ }
-    ensures { λ _. ⌜ now (out .exit) ≡ falling run (now (first .entry)) count (now (out .entry)) ⌝ }
+    ensures { λ _. ⌜ now (out .exit) ≡ storedBy closing run (now (first .entry)) count count (now (out .entry)) ⌝ }
 {
-    let mut n = count;
-    while 0 < n {
-        n -= 1;
-        one_size(run, n, first, second, out);
+    let mut k = 0;
+    while k < count {
+        one_size(run, size_at(closing, count, k), first, second, out);
+        k += 1;
     }
 }
 
@@ -134,51 +142,43 @@ fn highest(levels: &[u16]) -> u16
     most
 }
 
-// The sizes below the highest of the first levels: no larger one holds anything.
-fn all_rising(run: Record, first: &[u16], second: &mut [u16], out: &mut [u16])
-    requires { ⌜ Ready run (now first) (now second) × (((k : ℕ) → k < length (now first) → getD (now first) k 0 ≤ 4096) ×
+// How many sizes a plan goes through: a closing those up to its cap, an opening those below the highest of the eroded levels,
+// for no larger one holds anything.
+fn count_of(plan: Plan, levels: &[u16]) -> usize
+    requires { ⌜ Bounded plan (now levels) ⌝ }
+    ensures { λ r. ⌜ Counted plan (now (levels .entry)) r ⌝ }
+{
+    if plan.closing {
+        return plan.size + 1;
+    }
+    highest(levels) as usize
+}
+
+// All sizes, over levels that are 0.
+fn all_sizes(run: Record, plan: Plan, first: &[u16], second: &mut [u16], out: &mut [u16])
+    requires { ⌜ Ready run (now first) (now second) × (Bounded plan (now first) ×
         (length (now out) ≡ run .height * run .width)) ⌝ }
-    ensures { λ _. ⌜ Risen run (now (first .entry)) (now (out .entry)) (now (out .exit)) ⌝ }
+    ensures { λ _. ⌜ AllStored plan run (now (first .entry)) (now (out .entry)) (now (out .exit)) ⌝ }
 {
     back::clear(out);
-    let count = highest(first) as usize;
-    rise(run, count, first, second, out);
+    let count = count_of(plan, first);
+    go_through(run, plan.closing, count, first, second, out);
 }
 
-// The sizes from a cap down to 0.
-fn all_falling(run: Record, cap: usize, first: &[u16], second: &mut [u16], out: &mut [u16])
-    requires { ⌜ Ready run (now first) (now second) × ((cap ≤ 2047) × (length (now out) ≡ run .height * run .width)) ⌝ }
-    ensures { λ _. ⌜ now (out .exit) ≡ falling run (now (first .entry)) (cap + 1) (replicate (length (now (out .entry))) 0) ⌝ }
-{
-    back::clear(out);
-    fall(run, cap + 1, first, second, out);
-}
-
-// The opening levels from a finished erosion; both work buffers are cleared.
-pub fn filter_rising(run: Record, first: &mut [u16], second: &mut [u16], out: &mut [u16])
-    requires { ⌜ Ready run (now first) (now second) × (((k : ℕ) → k < length (now first) → getD (now first) k 0 ≤ 4096) ×
-        (length (now out) ≡ run .height * run .width)) ⌝ }
-    ensures { λ _. ⌜ (now (first .exit) ≡ replicate (length (now (first .entry))) 0) ×
-        ((now (second .exit) ≡ replicate (length (now (second .entry))) 0) ×
-        Risen run (now (first .entry)) (now (out .entry)) (now (out .exit))) ⌝ }
-{
-    all_rising(run, first, second, out);
-    back::clear_both(first, second);
-}
-
-// The closing levels from a finished dilation; both work buffers are cleared.
-pub fn filter_falling(
+// The levels of a plan from its finished first run; both work buffers are cleared.
+pub fn filter_levels(
     run: Record,
-    cap: usize,
+    plan: Plan,
     first: &mut [u16],
     second: &mut [u16],
     out: &mut [u16],
 )
-    requires { ⌜ Ready run (now first) (now second) × ((cap ≤ 2047) × (length (now out) ≡ run .height * run .width)) ⌝ }
+    requires { ⌜ Ready run (now first) (now second) × (Bounded plan (now first) ×
+        (length (now out) ≡ run .height * run .width)) ⌝ }
     ensures { λ _. ⌜ (now (first .exit) ≡ replicate (length (now (first .entry))) 0) ×
         ((now (second .exit) ≡ replicate (length (now (second .entry))) 0) ×
-        (now (out .exit) ≡ falling run (now (first .entry)) (cap + 1) (replicate (length (now (out .entry))) 0))) ⌝ }
+        AllStored plan run (now (first .entry)) (now (out .entry)) (now (out .exit))) ⌝ }
 {
-    all_falling(run, cap, first, second, out);
+    all_sizes(run, plan, first, second, out);
     back::clear_both(first, second);
 }

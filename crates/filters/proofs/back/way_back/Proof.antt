@@ -6,31 +6,33 @@ use Rattle.filters.proofs.back.way_back.Tie as tie
 
 finish-requires : tie.Need-finish-requires
 finish-requires c κs =
-    let args = c .before .before .before .before .before .before .before .before .before .before .before .before .args in
-    let pre = c .before .before .before .before .before .before .before .before .before .before .before .before .pre in
-    let back-run = c .before .before .before .before .before .before .before .before .before .back-run in
-    let below-held = c .before .before .before .before .before .before .before .before .below-held in
-    let highest-held = c .before .before .before .before .before .before .before .highest-held in
-    let where-one = c .before .before .before .before .before .before .where-one in
-    let where-one2 = c .before .before .before .before .before .where-one2 in
-    let mark = c .before .before .before .mark in
-    back-ready (args .run) (pre .0 .taken) (args .size) (pre .1) (below-held .result) (highest-held .result) (below-held .ensures)
-    (highest-held .ensures) (back-run .result) (back-run .ensures) (args .first .now) (where-one .result) (where-one2 .result)
-    (where-one .ensures) (where-one2 .ensures) (mark .ensures) (pre .0 .first-size)
+    let marked = c .before .before .before in
+    let entry = marked .before .before .before .before .before .before .before .before .before in
+    let args = entry .args in
+    let pre = entry .pre in
+    let other = marked .before .before .before .before .before .before .back-run in
+    let low = marked .before .before .before .before .before .below-held in
+    let high = marked .before .before .before .before .highest-held in
+    let on = marked .before .before .before .where-one in
+    let off = marked .before .before .where-one2 in
+    back-ready (args .run) (pre .0 .taken) (args .size) (pre .1) (low .result) (high .result) (low .ensures) (high .ensures)
+    (other .result) (other .ensures) (args .first .now) (on .result) (off .result) (on .ensures) (off .ensures)
+    (marked .mark .ensures) (pre .0 .first-size)
 
 returns : tie.Need-returns
 returns c =
-    let args = c .before .before .before .before .before .before .before .before .before .before .before .before .before .before .before .args in
-    let pre = c .before .before .before .before .before .before .before .before .before .before .before .before .before .before .before .pre in
-    let back-run = c .before .before .before .before .before .before .before .before .before .before .before .before .back-run in
-    let below-held = c .before .before .before .before .before .before .before .before .before .before .before .below-held in
-    let highest-held = c .before .before .before .before .before .before .before .before .before .before .highest-held in
-    let where-one = c .before .before .before .before .before .before .before .before .before .where-one in
-    let where-one2 = c .before .before .before .before .before .before .before .before .where-one2 in
-    let mark = c .before .before .before .before .before .before .mark in
-    back-finished (args .run) (pre .0 .taken) (args .size) (pre .1) (below-held .result) (highest-held .result)
-    (below-held .ensures) (highest-held .ensures) (back-run .result) (back-run .ensures) (args .first .now) (where-one .result)
-    (where-one2 .result) (where-one .ensures) (where-one2 .ensures) (mark .ensures) (c .before .before .finish .ensures)
+    let marked = c .before .before .before .before .before .before in
+    let entry = marked .before .before .before .before .before .before .before .before .before in
+    let args = entry .args in
+    let pre = entry .pre in
+    let other = marked .before .before .before .before .before .before .back-run in
+    let low = marked .before .before .before .before .before .below-held in
+    let high = marked .before .before .before .before .highest-held in
+    let on = marked .before .before .before .where-one in
+    let off = marked .before .before .where-one2 in
+    back-finished (args .run) (pre .0 .taken) (args .size) (pre .1) (low .result) (high .result) (low .ensures) (high .ensures)
+    (other .result) (other .ensures) (args .first .now) (on .result) (off .result) (on .ensures) (off .ensures)
+    (marked .mark .ensures) (c .before .before .finish .ensures)
 
 pub way-back-spec : {M : Type 1} → statement M
 way-back-spec =

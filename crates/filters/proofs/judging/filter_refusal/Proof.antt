@@ -1,8 +1,9 @@
--- Each answer follows from the tests that led to it.
-use Rattle.filters.proofs.Refusing.{filter-refuses, filter-size, filter-room}
-use Rattle.filters.specs.Back.{entriesOf}
+-- The first run is judged first; then the second work buffer against the first, and the output.
+use Rattle.run.proofs.RecordLaws.{area-small}
 use Rattle.run.proofs.Starts.{judged}
+use Rattle.filters.proofs.Refusing.{start-taken, plan-start, plan-second, plan-out, plan-fits}
 use borrow.Author.Needs.{needs}
+use native.Mathlib.Omega.{arith}
 use mathlib.Core.Path.{sym, _∙_}
 use Rattle.filters.proofs.judging.filter_refusal.Statement.{statement}
 use Rattle.filters.proofs.judging.filter_refusal.Tie as tie
@@ -10,33 +11,57 @@ use Rattle.filters.proofs.judging.filter_refusal.Tie as tie
 returns : tie.Need-returns
 returns c =
     let args = c .before .before .before .before .args in
-    filter-refuses (args .width) (args .height) (args .sheet .now) (args .side) (args .bytes .now) (args .bad) (args .cap)
-    (args .work) (args .spare) (args .room) (entriesOf (args .packed) (args .width)) _ (c .if1 .taken)
-    (c .before .start-refusal .ensures)
+    plan-start (args .input) (args .sheet .now) (args .bytes .now) (args .plan) (args .lent) (c .if1 .taken)
+    (c .before .first-refusal .ensures)
 
 returns-2 : tie.Need-returns-2
 returns-2 c =
-    let args = c .before .before .before .before .before .args in
-    filter-size (args .width) (args .height) (args .sheet .now) (args .side) (args .bytes .now) (args .bad) (args .cap)
-    (args .work) (args .spare) (args .room) (entriesOf (args .packed) (args .width))
-    (sym (c .before .before .start-refusal .ensures) ∙ c .before .if1 .left) (c .if2 .taken)
+    let passed = c .before .before in
+    let args = passed .before .before .before .before .args in
+    plan-second (args .input) (args .sheet .now) (args .bytes .now) (args .plan) (args .lent)
+    (sym (passed .before .first-refusal .ensures) ∙ passed .if1 .left) (c .if2 .taken)
 
-room-refusal-requires : tie.Need-room-refusal-requires
-room-refusal-requires c κs =
-    let args = c .before .before .before .before .before .args in
-    let pre = c .before .before .before .before .before .pre in
-    let j = judged (args .width) (args .height) (args .sheet .now) (args .side) (args .bytes .now)
-    (sym (c .before .before .start-refusal .ensures) ∙ c .before .if1 .left) in
-    (j .wide .1, (j .high .1, (j .element .side-is, pre (c .if2 .left))))
+row-entries-requires : tie.Need-row-entries-requires
+row-entries-requires c κs =
+    let passed = c .before .before in
+    let args = passed .before .before .before .before .args in
+    let t = start-taken (args .input) (args .sheet .now) (args .bytes .now) (args .plan) (args .lent .first)
+    (sym (passed .before .first-refusal .ensures) ∙ passed .if1 .left) in
+    judged (args .input .width) (args .input .height) (args .sheet .now) (args .input .side) (args .bytes .now) (t .common)
+    .wide .1
+
+mul-if3 : tie.Need-mul-if3
+mul-if3 c =
+    let passed = c .before .before .before .before in
+    let args = passed .before .before .before .before .args in
+    let entries = c .before .row-entries in
+    let t = start-taken (args .input) (args .sheet .now) (args .bytes .now) (args .plan) (args .lent .first)
+    (sym (passed .before .first-refusal .ensures) ∙ passed .if1 .left) in
+    let j = judged (args .input .width) (args .input .height) (args .sheet .now) (args .input .side) (args .bytes .now)
+    (t .common) in
+    let s = area-small (args .input .height) (entries .result) (j .high .1) (entries .ensures .1) in
+    omega arith
 
 returns-3 : tie.Need-returns-3
 returns-3 c =
-    let args = c .before .before .before .before .before .before .args in
-    let start-refusal = c .before .before .before .start-refusal in
-    filter-room (args .width) (args .height) (args .sheet .now) (args .side) (args .bytes .now) (args .bad) (args .cap)
-    (args .work) (args .spare) (args .room) (entriesOf (args .packed) (args .width))
-    (sym (start-refusal .ensures) ∙ c .before .before .if1 .left) (c .before .if2 .left) (c .room-refusal .ensures)
+    let second = c .before .before .before .before in
+    let passed = second .before .before in
+    let args = passed .before .before .before .before .args in
+    plan-out (args .input) (args .sheet .now) (args .bytes .now) (args .plan) (args .lent)
+    (sym (passed .before .first-refusal .ensures) ∙ passed .if1 .left) (second .if2 .left)
+    (c .before .before .before .row-entries .ensures .0)
+    (c .if3 .taken)
+
+returns-4 : tie.Need-returns-4
+returns-4 c =
+    let second = c .before .before .before .before in
+    let passed = second .before .before in
+    let args = passed .before .before .before .before .args in
+    plan-fits (args .input) (args .sheet .now) (args .bytes .now) (args .plan) (args .lent)
+    (sym (passed .before .first-refusal .ensures) ∙ passed .if1 .left) (second .if2 .left)
+    (c .before .before .before .row-entries .ensures .0)
+    (c .if3 .left)
 
 pub filter-refusal-spec : {M : Type 1} → statement M
 filter-refusal-spec =
-    tie.close (tie.spec (λ c κs. search needs) returns returns-2 room-refusal-requires returns-3)
+    tie.close (tie.spec (λ c κs. search needs) returns returns-2 row-entries-requires mul-if3 returns-3 returns-4)
