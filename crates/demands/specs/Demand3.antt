@@ -1,0 +1,76 @@
+-- DEMAND 3 in one statement. Take any accepted start and any series of calls, each accepted one with the record last returned
+-- and the run's own levels. Cuts do not show; completion is answered exactly when all rows are done; then the picture is that of
+-- demand 2; before, none is released.
+use Prim.Native.Nat.{ℕ, _*_, _≤_, _<_}
+use mathlib.Core.Path.{_≡_}
+use mathlib.Core.Logic.{_≢_, _↔_}
+use mathlib.Core.Bool.{true, false}
+use mathlib.Core.List.{List}
+use lib.ListN.{length}
+use Rattle.basics.specs.Bounds.{anyAbove}
+use Rattle.grid.specs.Points.{Point}
+use Rattle.grid.specs.Sets.{PointSet, eroded, dilated}
+use Rattle.grid.specs.Levels.{IsErosionLevel, IsDilationLevel}
+use Rattle.element.specs.Elements.{elementSet}
+use Rattle.sheet.specs.Sheets.{rowBytes, foreground}
+use Rattle.sheet.specs.Means.{LevelsMean, SheetMeans}
+use Rattle.run.specs.declared.Record.{Record}
+use Rattle.run.specs.Records.{due}
+use Rattle.run.specs.Pictures.{sizeLimit, collected, Collects, Thresholds}
+use Rattle.run.specs.Series.{Started, erosion, dilation, Slice, IsSeries, begun, after, unbroken, rowsWorked}
+use Rattle.pgm.specs.WritePgm.{maximum, picture, WritesPgm}
+
+-- the picture that a started run is to give, by demand 2: the level of each point, and the set held at a size
+abbrev pub RightLevel : {r : Record} {levels : List ℕ} → Started r levels → Point → ℕ → Type 0
+RightLevel (erosion width height sheet side bytes lent _) = IsErosionLevel (foreground width height sheet) (elementSet side bytes)
+RightLevel (dilation width height sheet side bytes cap lent _) =
+    IsDilationLevel cap (foreground width height sheet) (elementSet side bytes)
+
+abbrev pub RightSet : {r : Record} {levels : List ℕ} → Started r levels → ℕ → PointSet
+RightSet (erosion width height sheet side bytes lent _) n = eroded (foreground width height sheet) (elementSet side bytes) n
+RightSet (dilation width height sheet side bytes cap lent _) n = dilated (foreground width height sheet) (elementSet side bytes) n
+
+-- The picture is given, and it is the right one: collected, thresholded at every size in its range, and written, with outputs of
+-- the right lengths and room for the text.
+pub record PictureGiven {r : Record} {levels : List ℕ} (started : Started r levels) (run : Record) (own : List ℕ) : Type 0 where
+  pub collecting : (out : List ℕ) → length out ≡ r .height * r .width → (number : ℕ) (filled : List ℕ)
+      → Collects run own out number filled → (number ≡ 0) × LevelsMean (r .width) (r .height) (RightLevel started) filled
+  pub thresholding : (size : ℕ) → size ≤ sizeLimit r → (out : List ℕ) → length out ≡ r .height * rowBytes (r .width)
+      → (number : ℕ) (filled : List ℕ) → Thresholds run own size out number filled
+      → (number ≡ 0) × SheetMeans (r .width) (r .height) (RightSet started size) filled
+  pub writing : (out : List ℕ) → length (picture run (collected run own)) ≤ length out → (number : ℕ) (written : ℕ × List ℕ)
+      → WritesPgm run (collected run own) out number written → number ≡ 0
+
+-- No picture is given, whatever is lent: each call refuses and leaves its output as it was ..
+pub record NoneGiven (run : Record) : Type 0 where
+  pub collecting : (lent out : List ℕ) (number : ℕ) (filled : List ℕ) → Collects run lent out number filled
+      → (number ≢ 0) × (filled ≡ out)
+  pub thresholding : (lent : List ℕ) (size : ℕ) (out : List ℕ) (number : ℕ) (filled : List ℕ)
+      → Thresholds run lent size out number filled → (number ≢ 0) × (filled ≡ out)
+  pub writing : (lent out : List ℕ) (number : ℕ) (written : ℕ × List ℕ) → WritesPgm run lent out number written
+      → (number ≢ 0) × (written ≡ (0, out))
+
+-- .. and where everything else is in order the number is 13
+pub record RowsWanting (r run : Record) (own : List ℕ) : Type 0 where
+  pub collecting : (out : List ℕ) → length out ≡ r .height * r .width → (number : ℕ) (filled : List ℕ)
+      → Collects run own out number filled → number ≡ 13
+  pub thresholding : (size : ℕ) → size ≤ sizeLimit r → (out : List ℕ) → length out ≡ r .height * rowBytes (r .width)
+      → (number : ℕ) (filled : List ℕ) → Thresholds run own size out number filled → number ≡ 13
+  pub writing : (lent out : List ℕ) → length lent ≡ r .height * r .width → anyAbove (maximum r) lent ≡ false
+      → length (picture run lent) ≤ length out → (number : ℕ) (written : ℕ × List ℕ)
+      → WritesPgm run lent out number written → number ≡ 13
+
+pub record Demand3 {r : Record} {levels : List ℕ} (started : Started r levels) (series : List Slice) : Type 0 where
+  -- record, completion and levels are those of one unbroken scan of as many rows as the accepted allowances sum to, at most the
+  -- rows due
+  pub cuts : after (begun r levels) series ≡ unbroken r levels (rowsWorked r series)
+  pub completion : (after (begun r levels) series .1 ≡ true) ↔ (rowsWorked r series ≡ due r)
+  pub finished : rowsWorked r series ≡ due r
+      → PictureGiven started (after (begun r levels) series .0) (after (begun r levels) series .2)
+  pub unfinished : rowsWorked r series < due r
+      → NoneGiven (after (begun r levels) series .0) ×
+      RowsWanting r (after (begun r levels) series .0) (after (begun r levels) series .2)
+
+abbrev pub EveryRun : Type 0
+EveryRun = (r : Record) (levels : List ℕ) (started : Started r levels) (series : List Slice) → IsSeries (begun r levels) series
+    → Demand3 started series
