@@ -75,10 +75,10 @@ pub fn way_back(run: Record, size: usize, first: &[u16], second: &mut [u16])
     ensures { λ _. ⌜ now (second .exit) ≡ wayBack run (now (first .entry)) size ⌝ }
 {
     let other = back_run(run);
-    let low = run::pictures::below_held(run, size);
-    let high = run::pictures::highest_held(run, size);
-    let on = run::starting::where_one(other.kind, 65535, 1);
-    let off = run::starting::where_one(other.kind, 0, 65535);
+    let low = run::kinds::below_held(run, size);
+    let high = run::kinds::highest_held(run, size);
+    let on = run::starting::where_one(other.kind, row::NONE, 1);
+    let off = run::starting::where_one(other.kind, 0, row::NONE);
     mark(first, low, high, on, off, second);
     finish(other, second);
 }
@@ -91,8 +91,8 @@ fn pack_back(run: Record, size: usize, second: &[u16], out: &mut [u8])
 {
     let other = back_run(run);
     let margin = run::records::margin_of(run.cap, run.side);
-    let low = run::pictures::below_held(other, size);
-    let high = run::pictures::highest_held(other, size);
+    let low = run::kinds::below_held(other, size);
+    let high = run::kinds::highest_held(other, size);
     run::pictures::pack_frame(second, run.width, run.height, margin, low, high, out);
 }
 

@@ -77,8 +77,8 @@ fn store_held(run: Record, size: usize, second: &[u16], out: &mut [u16])
 {
     let other = back::back_run(run);
     let margin = run::records::margin_of(run.cap, run.side);
-    let low = run::pictures::below_held(other, size);
-    let high = run::pictures::highest_held(other, size);
+    let low = run::kinds::below_held(other, size);
+    let high = run::kinds::highest_held(other, size);
     let value = size as u16 + 1;
     store_rows(second, run.width, run.height, margin, low, high, value, out);
 }
