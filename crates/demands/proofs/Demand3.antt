@@ -1,12 +1,10 @@
 -- The parts are proved where their calls are: cuts, release and demand 2 in run, writing in pgm. Here they are joined: where the
 -- series ends, the run is an unbroken scan, so what is known of those holds of it.
-use Prim.Native.Nat.{ℕ, _≤_, _<_, min}
+use Prim.Native.Nat.{ℕ, _≤_, _<_}
 use native.Mathlib.Omega.{arith}
 use mathlib.Core.Path.{_≡_, refl, sym, ap, subst, subst₂, _∙_}
-use mathlib.Core.Bool.{true, false}
 use mathlib.Core.Logic.{_≢_}
 use mathlib.Core.List.{List}
-use lib.Dec.{eqb}
 use lib.ListN.{length}
 use borrow.Author.Tests.{eq-eqb, ne-eqb, eqb-true}
 use Rattle.basics.specs.Refusals.{first}
@@ -18,15 +16,15 @@ use Rattle.sheet.specs.Means.{LevelsMean, SheetMeans}
 use Rattle.scan.specs.Scan.{scanRows}
 use Rattle.run.specs.declared.Record.{Record}
 use Rattle.run.specs.Records.{areaOf, due}
-use Rattle.run.specs.Continuing.{withRows, isDone}
+use Rattle.run.specs.Continuing.{withRows}
 use Rattle.run.specs.Pictures.{sizeLimit, collected, thresholded}
-use Rattle.run.specs.Series.{Started, erosion, dilation, State, Slice, IsSeries, begun, after, unbroken, rowsWorked}
+use Rattle.run.specs.Series.{Started, erosion, dilation, State, unbroken, rowsWorked}
 use Rattle.run.specs.Demand2.{finished}
 use Rattle.run.proofs.Demand2.{erosion-picture, dilation-picture}
 use Rattle.run.proofs.Demand3.{cuts-do-not-show, released, none-released, unfinished-refused}
 use Rattle.pgm.specs.WritePgm.{picture, pgmRefusals}
 use Rattle.pgm.proofs.Released.{pgm-released, pgm-none-released, pgm-unfinished-refused}
-use Rattle.demands.specs.Demand3.{RightLevel, RightSet, PictureGiven, NoneGiven, RowsWanting, Demand3, EveryRun}
+use Rattle.demands.specs.Demand3.{RightLevel, RightSet, PictureGiven, NoneGiven, RowsWanting, EveryRun}
 
 -- rows done do not matter to what is collected and held
 collected-rows : (r : Record) (n : ℕ) (levels : List ℕ) → collected (withRows r n) levels ≡ collected r levels

@@ -11,7 +11,6 @@ use mathlib.Core.List.{List, [], _∷_}
 use lib.Dec.{eqb, ltb}
 use lib.ListN.{length}
 use borrow.Author.Tests.{le-ltb, eq-eqb, ne-eqb, eqb-true}
-use Rattle.basics.specs.Limits.{mostRows}
 use Rattle.basics.specs.Refusals.{first}
 use Rattle.basics.proofs.RefusalLaws.{refuses, accepts}
 use Rattle.sheet.specs.Sheets.{rowBytes}
@@ -19,7 +18,7 @@ use Rattle.scan.specs.Scan.{scanRows}
 use Rattle.scan.proofs.ScanLaws.{rows-add, rows-length, rows-none}
 use Rattle.run.specs.declared.Record.{Record}
 use Rattle.run.specs.Records.{areaWidth, areaHeight, areaOf, due, recordBad, noRecord}
-use Rattle.run.specs.Continuing.{levelsWrong, withRows, isDone, continued, continueRefusals, Continues}
+use Rattle.run.specs.Continuing.{levelsWrong, withRows, continued, continueRefusals, Continues}
 use Rattle.run.specs.Pictures.{sizeLimit, collectRefusals, thresholdRefusals}
 use Rattle.run.specs.Series.{Started, State, Slice, Allowed, IsSeries, begun, next, after, allowed, unbroken, rowsWorked}
 use Rattle.run.specs.Series.{SeriesExist, CutsDoNotShow, AcceptedExactly, NoneReleased, UnfinishedRefused, Released}

@@ -4,14 +4,14 @@
 use Prim.Native.Nat.{ℕ, suc, _+_, _*_, _≤_, _<_}
 use native.Mathlib.Numerals.{add-one}
 use native.Mathlib.Omega.{arith}
-use mathlib.Core.Path.{_≡_, refl, sym, ap, _∙_, fun-ext}
+use mathlib.Core.Path.{_≡_, refl, ap, _∙_, fun-ext}
 use mathlib.Core.Logic.{_≢_}
 use mathlib.Core.Bool.{Bool, true, false, not, cond, _&&_, _||_}
 use mathlib.Core.List.{List, [], _∷_}
 use lib.Dec.{eqb, leb, ltb}
 use lib.ListN.{length}
 use borrow.Author.Tests.{lt-ltb, le-ltb, eq-eqb, ne-eqb, eqb-true, ltb-false, not-false}
-use Rattle.basics.specs.Refusals.{Refusal, first}
+use Rattle.basics.specs.Refusals.{first}
 use Rattle.basics.specs.Tables.{raster}
 use Rattle.basics.proofs.RefusalLaws.{rule-unique}
 use Rattle.sheet.specs.Sheets.{rowBytes, packed}

@@ -51,9 +51,13 @@ all-dec (c ∷ rest) = both-dec (given-dec (c .question) c) (all-dec rest)
 
 -- THE CLAIM
 pub starred-runs : RunsGive cases
-unfolding Yes list-dec shows-dec given-dec all-dec both-dec same-dec ℕ-discrete isSide anyAbove countSet isSideOut outside anyOutside elementForeign capForeign foreign recordBad table raster sevenBySeven isHeld centredCell centred turned flat unflat pixel packedByte packed cellNumber within levelAt partner least firstMet lowered pointRule place columns rowRule scanRow scanRows inked startLevels collected thresholded
+unfolding Yes list-dec shows-dec given-dec all-dec both-dec same-dec ℕ-discrete isSide anyAbove countSet isSideOut outside
+    anyOutside elementForeign capForeign foreign recordBad table raster sevenBySeven isHeld centredCell centred turned flat
+    unflat pixel packedByte packed cellNumber within levelAt partner least firstMet lowered pointRule place columns rowRule
+    scanRow scanRows inked startLevels collected thresholded
 starred-runs = by-test (all-dec cases) tt
 
 pub after-one-row : AfterOneRow
-unfolding table raster sevenBySeven isHeld centredCell centred turned flat unflat pixel packedByte packed cellNumber within levelAt partner least firstMet lowered pointRule place columns rowRule scanRow scanRows inked startLevels
+unfolding table raster sevenBySeven isHeld centredCell centred turned flat unflat pixel packedByte packed cellNumber within
+    levelAt partner least firstMet lowered pointRule place columns rowRule scanRow scanRows inked startLevels
 after-one-row = refl

@@ -81,10 +81,11 @@ fill-level-requires-4 c κs =
 
 returns-3 : tie.Need-returns-3
 returns-3 c =
-    let args = c .before .before .before .before .before .before .before .before .before .before .before .before .before .before .before .before .args in
-    let if1 = c .before .before .before .before .before .before .before .before .before .before .before .before .before .if1 in
-    let if2 = c .before .before .before .before .before .before .before .before .before .before .before .before .if2 in
-    let fill-level3 = c .before .before .before .before .before .before .before .before .before .before .fill-level3 in
+    let earlier = c .before .before .before .before .before .before .before .before .before .before in
+    let args = earlier .before .before .before .before .before .before .args in
+    let if1 = earlier .before .before .before .if1 in
+    let if2 = earlier .before .before .if2 in
+    let fill-level3 = earlier .fill-level3 in
     let fill-pixels = c .before .before .before .before .before .before .fill-pixels in
     row-parts (args .width) (args .height) (args .margin) (args .sheet .now) (args .on) (args .off) (args .row) (if1 .left)
     (if2 .left) (fill-level3 .ensures) (fill-pixels .ensures) (c .before .before .fill-level4 .ensures)
