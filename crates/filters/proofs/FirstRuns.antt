@@ -15,17 +15,17 @@ use Rattle.row.specs.RowRule.{none}
 use Rattle.scan.proofs.ScanLaws.{rows-length}
 use Rattle.run.specs.declared.Record.{Record}
 use Rattle.run.specs.Records.{marginOf, areaWidth, areaHeight, areaOf, due, foreign}
-use Rattle.run.specs.Starting.{startLevels, erosionRefusals, StartsErosion, StartsDilation}
+use Rattle.run.specs.Starting.{startLevels, erosionRefusals, dilationRefusals, StartsErosion, StartsDilation}
 use Rattle.run.specs.Series.{erosion, dilation}
 use Rattle.run.specs.Demand2.{finished}
 use Rattle.run.proofs.Started.{IsStart, is-start}
-use Rattle.run.proofs.Starts.{judged, erosion-fits}
+use Rattle.run.proofs.Starts.{judged, erosion-fits, dilation-canvas}
 use Rattle.filters.specs.declared.Input.{Input}
 use Rattle.filters.specs.declared.judging.Plan.{Plan}
 use Rattle.filters.specs.Filters.{foregroundOf, elementOf}
 use Rattle.filters.specs.Plans.{capOf, startRefusals, firstRecord, firstStart, firstLevels, filtered}
 use Rattle.filters.specs.Back.{Ready}
-use Rattle.filters.proofs.Refusing.{start-taken, no-margin}
+use Rattle.filters.proofs.Refusing.{cap-small, start-taken, no-margin}
 use Rattle.filters.proofs.WayBack.{HoldsBack, opening-back, closing-back}
 
 -- the sizes that the way back may be taken for: those of an opening, or those up to the cap
@@ -42,7 +42,16 @@ module _ (input : Input) (sheet bytes lent : List ℕ) where
   abbrev Begun : Plan → Record → List ℕ → Type 0
   Begun plan run levels = (run ≡ firstRecord input bytes plan) × (levels ≡ firstStart input sheet plan)
 
-  -- an erosion accepts what an opening has accepted
+  -- each start accepts what its plan has accepted
+  dilation-taken : (size : ℕ) (packed : Bool) → Accepts (planOf true size packed)
+      → first (dilationRefusals (input .width) (input .height) sheet (input .side) bytes (capOf (planOf true size packed)) lent)
+      ≡ 0
+  dilation-taken size packed z =
+      let plan = planOf true size packed in
+      let t = start-taken input sheet bytes plan (length lent) z in
+      sym (dilation-canvas (input .width) (input .height) sheet (input .side) bytes (capOf plan) lent (t .common)
+      (cap-small input sheet bytes plan (t .size-good)) (sym (t .canvas-good)))
+
   erosion-taken : (size : ℕ) (packed : Bool) → Accepts (planOf false size packed)
       → first (erosionRefusals (input .width) (input .height) sheet (input .side) bytes lent) ≡ 0
   erosion-taken size packed z =
@@ -65,7 +74,9 @@ module _ (input : Input) (sheet bytes lent : List ℕ) where
             (capOf (planOf t (plan .size) (plan .packed))) lent
             number (run, levels)
             → Begun (planOf t (plan .size) (plan .packed)) run levels
-        go true e z a = let q = a .accepted (a .refusal ∙ z) in (ap (λ t. t .0) q, ap (λ t. t .1) q)
+        go true e z a =
+            let q = a .accepted (a .refusal ∙ dilation-taken (plan .size) (plan .packed) z) in
+            (ap (λ t. t .0) q, ap (λ t. t .1) q)
         go false e z a = absurd (false≢true e)
 
     pub erosion-begun : plan .closing ≡ false
@@ -89,7 +100,7 @@ module _ (input : Input) (sheet bytes lent : List ℕ) where
           → IsStart (firstRecord input bytes (planOf closing size packed)) (firstStart input sheet (planOf closing size packed))
       go true size packed z =
           is-start (dilation (input .width) (input .height) sheet (input .side) bytes
-          (capOf (planOf true size packed)) lent (accepts _ z refl))
+          (capOf (planOf true size packed)) lent (accepts _ (dilation-taken size packed z) refl))
       go false size packed z =
           subst (IsStart _) (frame-start refl)
           (is-start (erosion (input .width) (input .height) sheet (input .side) bytes lent

@@ -12,3 +12,4 @@ pub mod SheetAnswers
 pub mod StoreLaws
 pub mod LevelRounds
 pub mod LevelAnswers
+pub mod PaddingLaws

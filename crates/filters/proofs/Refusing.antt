@@ -39,11 +39,13 @@ entries-levels t width e l = (rw e, l)
 module _ (input : Input) (sheet bytes : List ℕ) (plan : Plan) where
   -- a cap is small wherever 8 does not apply
   pub cap-small : plan .size ≤ limitOf plan → capOf plan ≤ 2047
-  cap-small = go (plan .closing)
+  cap-small = go (plan .closing) (plan .size) (plan .packed)
     where
-      go : (t : Bool) → plan .size ≤ cond t 2047 4096 → cond t (plan .size) 0 ≤ 2047
-      go true l = l
-      go false l = omega arith
+      go : (closing : Bool) (size : ℕ) (packed : Bool)
+          → size ≤ limitOf (record { closing = closing; size = size; packed = packed })
+          → capOf (record { closing = closing; size = size; packed = packed }) ≤ 2047
+      go true size packed l = omega arith
+      go false size packed l = omega arith
 
   -- the first run
   module _ (count : ℕ) where
@@ -68,8 +70,7 @@ module _ (input : Input) (sheet bytes : List ℕ) (plan : Plan) where
   pub record StartTaken (count : ℕ) : Type 0 where
     pub common : first (inputRefusals input sheet bytes) ≡ 0
     pub size-good : plan .size ≤ limitOf plan
-    pub wide : canvasSide (input .width) (marginOf (capOf plan) (input .side)) ≤ longestSide
-    pub high : canvasSide (input .height) (marginOf (capOf plan) (input .side)) ≤ longestSide
+    pub canvas-good : first (canvasRefusals (input .width) (input .height) (capOf plan) (input .side) count) ≡ 0
     pub work-size : count ≡ closingSize input (capOf plan)
 
   pub start-taken : (count : ℕ) → first (startRefusals input sheet bytes plan count) ≡ 0 → StartTaken count
@@ -80,8 +81,7 @@ module _ (input : Input) (sheet bytes : List ℕ) (plan : Plan) where
       record {
         common = p .0;
         size-good = ltb-false (limitOf plan) (plan .size) (q .0);
-        wide = t .0;
-        high = t .1;
+        canvas-good = q .1;
         work-size = t .2;
       }
 
@@ -164,10 +164,16 @@ one-entry : (a b : Bool) (n rest : ℕ) → cond a n (cond b n rest) ≡ cond (a
 one-entry true b n rest = refl
 one-entry false b n rest = refl
 
--- an answer by one list is an answer by another that gives the same number
-pub answers-alike : {A : Type 0} {xs ys : List Refusal} {kept : A} {Right : A → Type 0} {number : ℕ} {after : A}
+-- an answer by one list is an answer by another that gives the same number, where what is right by the one is right by the other
+pub answers-carried : {A : Type 0} {xs ys : List Refusal} {kept : A} {Right Also : A → Type 0} {number : ℕ} {after : A}
+    → first xs ≡ first ys → ((after : A) → Right after → Also after) → Answers xs kept Right number after
+    → Answers ys kept Also number after
+answers-carried {after = after} e also a =
+    record { refusal = a .refusal ∙ e; accepted = λ z. also after (a .accepted z); refused = a .refused }
+
+answers-alike : {A : Type 0} {xs ys : List Refusal} {kept : A} {Right : A → Type 0} {number : ℕ} {after : A}
     → first xs ≡ first ys → Answers xs kept Right number after → Answers ys kept Right number after
-answers-alike e a = record { refusal = a .refusal ∙ e; accepted = a .accepted; refused = a .refused }
+answers-alike e = answers-carried e (λ _ h. h)
 
 module _ (input : Input) (sheet bytes : List ℕ) (size : ℕ) (packed : Bool) (lent : Buffers) where
   abbrev work : ℕ → List Refusal

@@ -2,3 +2,4 @@ pub mod Filters
 pub mod Plans
 pub mod Back
 pub mod StarredFilters
+pub mod PaddingIgnored

@@ -5,6 +5,7 @@ ghost use mathlib.Core.Bool.{false, cond};
 ghost use Prim.Native.Nat.{_*_, _≤_};
 ghost use lib.Dec.{eqb};
 ghost use lib.ListN.{length, getD, replicate};
+ghost use Rattle.basics.specs.Limits.{largestSize};
 ghost use Rattle.basics.specs.Tables.{table};
 ghost use Rattle.sheet.specs.Sheets.{rowBytes};
 ghost use Rattle.run.specs.Records.{areaWidth, areaHeight, foreign};
@@ -16,7 +17,7 @@ pub fn finish(run: Record, levels: &mut [u16])
     requires { ⌜ (foreign run ≡ false) × ((run .rows ≡ 0) × (length (now levels) ≡ areaHeight run * areaWidth run)) ⌝ }
     ensures { λ _. ⌜ now (levels .exit) ≡ finished run (now (levels .entry)) ⌝ }
 {
-    run::continuing::continue_run(run, levels, 8192);
+    run::continuing::continue_run(run, levels, basics::MOST_ROWS);
 }
 
 fn other_kind(kind: u8) -> u8
@@ -71,7 +72,7 @@ fn mark(first: &[u16], low: u16, high: u16, on: u16, off: u16, second: &mut [u16
 
 // The way back from a finished run, at a size.
 pub fn way_back(run: Record, size: usize, first: &[u16], second: &mut [u16])
-    requires { ⌜ Ready run (now first) (now second) × (size ≤ 4096) ⌝ }
+    requires { ⌜ Ready run (now first) (now second) × (size ≤ largestSize) ⌝ }
     ensures { λ _. ⌜ now (second .exit) ≡ wayBack run (now (first .entry)) size ⌝ }
 {
     let other = back_run(run);
@@ -85,7 +86,7 @@ pub fn way_back(run: Record, size: usize, first: &[u16], second: &mut [u16])
 
 // The packed sheet of the frame's points that are held after the way back.
 fn pack_back(run: Record, size: usize, second: &[u16], out: &mut [u8])
-    requires { ⌜ (foreign run ≡ false) × ((length (now second) ≡ areaHeight run * areaWidth run) × ((size ≤ 4096) ×
+    requires { ⌜ (foreign run ≡ false) × ((length (now second) ≡ areaHeight run * areaWidth run) × ((size ≤ largestSize) ×
         (length (now out) ≡ run .height * rowBytes (run .width)))) ⌝ }
     ensures { λ _. ⌜ now (out .exit) ≡ keptSheet run (now (second .entry)) size ⌝ }
 {
@@ -115,7 +116,7 @@ pub fn clear_both(first: &mut [u16], second: &mut [u16])
 // The sheet at a size, from a finished run.
 fn sheet_back(run: Record, size: usize, first: &[u16], second: &mut [u16], out: &mut [u8])
     requires { ⌜ Ready run (now first) (now second) ×
-        ((size ≤ 4096) × (length (now out) ≡ run .height * rowBytes (run .width))) ⌝ }
+        ((size ≤ largestSize) × (length (now out) ≡ run .height * rowBytes (run .width))) ⌝ }
     ensures { λ _. ⌜ (length (now (second .exit)) ≡ length (now (second .entry))) ×
         (now (out .exit) ≡ keptSheet run (wayBack run (now (first .entry)) size) size) ⌝ }
 {
@@ -126,7 +127,7 @@ fn sheet_back(run: Record, size: usize, first: &[u16], second: &mut [u16], out: 
 // The same, and both work buffers are cleared.
 pub fn filter_sheet(run: Record, size: usize, first: &mut [u16], second: &mut [u16], out: &mut [u8])
     requires { ⌜ Ready run (now first) (now second) ×
-        ((size ≤ 4096) × (length (now out) ≡ run .height * rowBytes (run .width))) ⌝ }
+        ((size ≤ largestSize) × (length (now out) ≡ run .height * rowBytes (run .width))) ⌝ }
     ensures { λ _. ⌜ (now (first .exit) ≡ replicate (length (now (first .entry))) 0) ×
         ((now (second .exit) ≡ replicate (length (now (second .entry))) 0) ×
         (now (out .exit) ≡ keptSheet run (wayBack run (now (first .entry)) size) size)) ⌝ }

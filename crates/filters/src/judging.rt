@@ -2,6 +2,7 @@
 use super::Input;
 ghost use mathlib.Core.Path.{_≡_};
 ghost use Prim.Native.Nat.{_≤_};
+ghost use Rattle.basics.specs.Limits.{longestSide};
 ghost use Rattle.basics.specs.Refusals.{first};
 ghost use Rattle.filters.specs.Plans.{limitOf, capOf, entriesOf, startRefusals, planRefusals};
 
@@ -42,8 +43,8 @@ pub fn cap_of(plan: Plan) -> usize
 
 // The entries of a row of the output: bytes of a packed sheet, or levels.
 fn row_entries(packed: bool, width: usize) -> usize
-    requires { ⌜ width ≤ 4096 ⌝ }
-    ensures { λ r. ⌜ (r ≡ entriesOf packed width) × (r ≤ 4096) ⌝ }
+    requires { ⌜ width ≤ longestSide ⌝ }
+    ensures { λ r. ⌜ (r ≡ entriesOf packed width) × (r ≤ longestSide) ⌝ }
 {
     if packed {
         return sheet::row_bytes(width);

@@ -6,6 +6,7 @@ ghost use mathlib.Core.Path.{_≡_};
 ghost use mathlib.Core.Bool.{false};
 ghost use Prim.Native.Nat.{_+_, _*_, _≤_, _<_, max};
 ghost use lib.ListN.{length, getD, replicate};
+ghost use Rattle.basics.specs.Limits.{largestSize};
 ghost use Rattle.basics.specs.Tables.{raster};
 ghost use Rattle.run.specs.Records.{areaWidth, areaHeight, foreign};
 ghost use Rattle.run.specs.Patches.{Patch, Canvas, levelIn};
@@ -71,7 +72,7 @@ fn store_rows(
 
 // Stores a size and one at the points that are held after the way back.
 fn store_held(run: Record, size: usize, second: &[u16], out: &mut [u16])
-    requires { ⌜ (foreign run ≡ false) × ((length (now second) ≡ areaHeight run * areaWidth run) × ((size ≤ 4096) ×
+    requires { ⌜ (foreign run ≡ false) × ((length (now second) ≡ areaHeight run * areaWidth run) × ((size ≤ largestSize) ×
         (length (now out) ≡ run .height * run .width))) ⌝ }
     ensures { λ _. ⌜ now (out .exit) ≡ stored run (now (second .entry)) size (now (out .entry)) ⌝ }
 {
@@ -85,7 +86,7 @@ fn store_held(run: Record, size: usize, second: &[u16], out: &mut [u16])
 
 // One size: the way back, and what it holds.
 fn one_size(run: Record, size: usize, first: &[u16], second: &mut [u16], out: &mut [u16])
-    requires { ⌜ Ready run (now first) (now second) × ((size ≤ 4096) × (length (now out) ≡ run .height * run .width)) ⌝ }
+    requires { ⌜ Ready run (now first) (now second) × ((size ≤ largestSize) × (length (now out) ≡ run .height * run .width)) ⌝ }
     ensures { λ _. ⌜ (length (now (second .exit)) ≡ length (now (second .entry))) ×
         (now (out .exit) ≡ stored run (wayBack run (now (first .entry)) size) size (now (out .entry))) ⌝ }
 {
@@ -113,7 +114,7 @@ fn go_through(
     second: &mut [u16],
     out: &mut [u16],
 )
-    requires { ⌜ Ready run (now first) (now second) × ((count ≤ 4096) × (length (now out) ≡ run .height * run .width)) ⌝ }
+    requires { ⌜ Ready run (now first) (now second) × ((count ≤ largestSize) × (length (now out) ≡ run .height * run .width)) ⌝ }
     ensures { λ _. ⌜ now (out .exit) ≡ storedBy closing run (now (first .entry)) count count (now (out .entry)) ⌝ }
 {
     let mut k = 0;
