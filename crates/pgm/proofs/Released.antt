@@ -32,7 +32,7 @@ use Rattle.run.specs.Demand2.{finished}
 use Rattle.run.proofs.Starts.{judged, erosion-taken}
 use Rattle.run.proofs.Started.{is-start, foreign-rows}
 use Rattle.run.proofs.Demand2.{erosion-picture, dilation-picture}
-use Rattle.pgm.specs.WritePgm.{maximum, picture, pgmRefusals}
+use Rattle.pgm.specs.WritePgm.{maximum}
 use Rattle.pgm.specs.Released.{LevelsWithin, PgmUnfinishedRefused, PgmNoneReleased, PgmReleased}
 use Rattle.pgm.proofs.FinishedLaws.{refuse-rows, accept-picture, picture-accepted}
 

@@ -1,7 +1,7 @@
 -- What writing a finished run's collected levels as plain PGM answers.
 use Prim.Native.Nat.{ℕ, _+_, _*_, max}
 use mathlib.Core.Path.{_≡_}
-use mathlib.Core.Bool.{Bool, false, not, cond, _||_}
+use mathlib.Core.Bool.{not, cond}
 use mathlib.Core.List.{List, [], _∷_}
 use lib.Dec.{eqb, ltb}
 use lib.ListN.{length}

@@ -1,7 +1,7 @@
 // What the program prints, as one function from the input's bytes to the output's.
 use run::Record;
 ghost use mathlib.Core.Path.{_≡_};
-ghost use Prim.Native.Nat.{_+_, _*_, _<_, _≤_};
+ghost use Prim.Native.Nat.{_*_, _<_, _≤_};
 ghost use lib.ListN.{length, take};
 ghost use Rattle.run.specs.Records.{due};
 ghost use Rattle.run.specs.Continuing.{withRows};

@@ -17,9 +17,7 @@ sub-raster-refusal c =
     at-within (args .file .now) (args .out .now) (c .before .read-header .ensures) (c .if1 .left)
 
 part-raster-refusal-start : tie.Need-part-raster-refusal-start
-part-raster-refusal-start c =
-    let args = c .before .before .before .before .args in
-    at-within (args .file .now) (args .out .now) (c .before .read-header .ensures) (c .if1 .left)
+part-raster-refusal-start c = sub-raster-refusal c
 
 raster-refusal-requires : tie.Need-raster-refusal-requires
 raster-refusal-requires c κs =
@@ -59,11 +57,7 @@ sub-copy-cleared c =
     at-within (args .file .now) (args .out .now) (read-header .ensures) (if1 .left)
 
 part-copy-cleared-start : tie.Need-part-copy-cleared-start
-part-copy-cleared-start c =
-    let args = c .before .before .before .before .before .before .before .before .args in
-    let read-header = c .before .before .before .before .before .read-header in
-    let if1 = c .before .before .before .before .if1 in
-    at-within (args .file .now) (args .out .now) (read-header .ensures) (if1 .left)
+part-copy-cleared-start c = sub-copy-cleared c
 
 copy-cleared-requires : tie.Need-copy-cleared-requires
 copy-cleared-requires c κs =

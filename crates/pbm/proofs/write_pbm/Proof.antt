@@ -21,14 +21,6 @@ add-size c =
     (sheet-refusal .ensures) (c .before .if1 .left) in
     let d = c .digit-count .ensures in omega arith
 
-add-size-2 : tie.Need-add-size-2
-add-size-2 c =
-    let args = c .before .before .before .before .before .before .args in
-    let sheet-refusal = c .before .before .before .sheet-refusal in
-    let s = small (args .width) (args .height) (args .sheet .now) (args .out .now) (sheet-refusal .result)
-    (sheet-refusal .ensures) (c .before .before .if1 .left) in
-    let d = c .before .digit-count .ensures in let e = c .digit-count2 .ensures in omega arith
-
 add-size-3 : tie.Need-add-size-3
 add-size-3 c =
     let args = c .before .before .before .before .before .before .args in
@@ -36,6 +28,9 @@ add-size-3 c =
     let s = small (args .width) (args .height) (args .sheet .now) (args .out .now) (sheet-refusal .result)
     (sheet-refusal .ensures) (c .before .before .if1 .left) in
     let d = c .before .digit-count .ensures in let e = c .digit-count2 .ensures in omega arith
+
+add-size-2 : tie.Need-add-size-2
+add-size-2 c = let l = add-size-3 c in omega arith
 
 returns-2 : tie.Need-returns-2
 returns-2 c =
@@ -72,17 +67,7 @@ sub-copy-cleared c =
     (write-header .result) (write-header .last .1 .1 .0) (write-header .ensures)
 
 part-copy-cleared-start : tie.Need-part-copy-cleared-start
-part-copy-cleared-start c =
-    let args = c .before .before .before .before .before .before .before .before .before .before .before .args in
-    let sheet-refusal = c .before .before .before .before .before .before .before .before .sheet-refusal in
-    let if1 = c .before .before .before .before .before .before .before .if1 in
-    let digit-count = c .before .before .before .before .before .before .digit-count in
-    let digit-count2 = c .before .before .before .before .before .digit-count2 in
-    let if2 = c .before .before .before .before .if2 in
-    let write-header = c .before .before .write-header in
-    at-room (args .width) (args .height) (args .sheet .now) (args .out .now) (sheet-refusal .result) (sheet-refusal .ensures)
-    (if1 .left) _ (sizes _ _ _ _ (args .sheet .now) (digit-count .ensures) (digit-count2 .ensures)) (if2 .left)
-    (write-header .result) (write-header .last .1 .1 .0) (write-header .ensures)
+part-copy-cleared-start c = sub-copy-cleared c
 
 copy-cleared-requires : tie.Need-copy-cleared-requires
 copy-cleared-requires c κs =

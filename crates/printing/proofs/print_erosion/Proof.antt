@@ -7,9 +7,6 @@ use Rattle.sheet.specs.Sheets.{rowBytes}
 use Rattle.printing.proofs.PageLaws.{prints-as}
 use Rattle.printing.proofs.InputLaws.{too-long, read-refused, read-found}
 use borrow.Author.Needs.{needs}
-use native.Mathlib.Omega.{arith}
-use Prim.Native.Nat.{_*_}
-use mathlib.Core.Path.{refl, sym}
 use Rattle.printing.proofs.print_erosion.Statement.{statement}
 use Rattle.printing.proofs.print_erosion.Tie as tie
 

@@ -5,9 +5,6 @@ use mathlib.Core.Path.{sym}
 use lib.Seq.{length-take-le}
 use Rattle.printing.proofs.PageLaws.{prints-as, too-many, pixels-fit, part-length}
 use borrow.Author.Needs.{needs}
-use native.Mathlib.Omega.{arith}
-use Prim.Native.Nat.{_*_}
-use mathlib.Core.Path.{sym}
 use Rattle.printing.proofs.print_sheet.Statement.{statement}
 use Rattle.printing.proofs.print_sheet.Tie as tie
 
