@@ -1,13 +1,14 @@
 -- Laws of digits. All of `digits` goes by two equations, for n below 10 and from 10 on, and one induction: from n / 10 to n.
 use Prim.Native.Nat.{ℕ, zero, suc, _+_, _-_, _*_, _/_, _%_, _^_, _≤_, _<_, min}
-use native.Mathlib.Nat.{pow-succ', one-le-pow}
+use native.Mathlib.Nat.{pow-succ'}
 use native.Mathlib.Decide.{decLt}
 use native.Mathlib.Omega.{arith}
 use mathlib.Core.Path.{_≡_, refl, sym, ap, _∙_}
 use mathlib.Core.Bool.{Bool, true, false, _&&_, false≢true}
+use mathlib.Core.Logic.{_≢_}
 use mathlib.Core.List.{List, [], _∷_, _++_}
 use lib.Dec.{leb}
-use lib.ListN.{length, getD, take, drop, length-append}
+use lib.ListN.{length, getD, take, drop, length-append, List·getD-append}
 use lib.Seq.{drop-at, length-take-le}
 use borrow.Author.Tests.{lt-ltb, le-ltb, leb-true, le-leb, lt-leb}
 use Rattle.decimal.specs.Numbers.{isDigit, allDigits, valueFrom, value, digitsIn, digits, digitRun, written}
@@ -89,7 +90,8 @@ unfolding valueFrom
 value-append before [] ys = refl
 value-append before (byte ∷ xs) ys = value-append (before * 10 + (byte - 48)) xs ys
 
--- THE LAWS OF THE DIGITS OF A NUMBER: they mean it, they are digits, at least one, none of them a zero in front
+-- THE LAWS OF THE DIGITS OF A NUMBER: they mean it, they are digits, at least one, and no
+-- zero stands in front of a number above 0
 pub value-digits : (n : ℕ) → value (digits n) ≡ n
 unfolding valueFrom
 value-digits = by-tens (λ n. value (digits n) ≡ n) one more
@@ -127,7 +129,17 @@ digits-some n = go (decLt n 10)
     go (yes l) = let e = length-one n l in omega arith
     go (no l) = let e = length-more n (omega arith) in omega arith
 
--- a number below 10 ^ k has at most k digits, and one from 10 ^ k on has more
+pub digits-front : (n : ℕ) → 0 < n → getD (digits n) 0 0 ≢ 48
+digits-front = by-tens (λ n. 0 < n → getD (digits n) 0 0 ≢ 48) one more
+  where
+    one : (n : ℕ) → n < 10 → 0 < n → getD (digits n) 0 0 ≢ 48
+    one n l p = rw (digits-one n l) (λ e. omega arith)
+
+    more : (n : ℕ) → 10 ≤ n → (0 < n / 10 → getD (digits (n / 10)) 0 0 ≢ 48) → 0 < n → getD (digits n) 0 0 ≢ 48
+    more n l ih p =
+        rw (digits-more n l, List·getD-append (digits (n / 10)) ((48 + n % 10) ∷ []) 0 0 (digits-some (n / 10))) (ih (omega arith))
+
+-- a number below 10 ^ k has at most k digits
 pub length-below : (k n : ℕ) → 0 < k → n < 10 ^ k → length (digits n) ≤ k
 length-below zero n p l = absurd (omega arith)
 length-below (suc zero) n p l = let e = length-one n l in omega arith
@@ -140,15 +152,6 @@ length-below (suc (suc k)) n p l = go (decLt n 10) (length-below (suc k) (n / 10
         let h = ih (omega arith) in
         let e = length-more n (omega arith) in
         omega arith
-
-pub length-from : (k n : ℕ) → 10 ^ k ≤ n → k < length (digits n)
-length-from zero n l = digits-some n
-length-from (suc k) n l =
-    let q : 10 * 10 ^ k ≤ n = rw pow-succ' at l in
-    let o = one-le-pow k 10 (omega arith) in
-    let h = length-from k (n / 10) (omega arith) in
-    let e = length-more n (omega arith) in
-    omega arith
 
 -- the run at the front of a list ends where the list does, and at a byte that is no digit
 pub run-end : digitRun [] ≡ []

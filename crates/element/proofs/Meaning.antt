@@ -4,12 +4,13 @@
 use Prim.Native.Nat.{ℕ, _+_, _-_, _*_, _≤_, _<_}
 use native.Mathlib.Omega.{arith}
 use mathlib.Core.Path.{_≡_, refl, sym, ap, ap₂, _∙_}
-use mathlib.Core.Bool.{Bool, true, false, _&&_, false≢true}
+use mathlib.Core.Bool.{Bool, true, false}
 use mathlib.Core.List.{List, []}
 use lib.Dec.{leb, ltb}
 use lib.ListN.{length, getD}
 use borrow.Author.Tests.{ltb-true, leb-true}
 use Rattle.basics.specs.Tables.{table, raster}
+use Rattle.basics.proofs.BoundLaws.{both}
 use Rattle.basics.proofs.TableLaws.{getD-table, getD-raster, raster-is}
 use Rattle.grid.specs.Sets.{reflect, _≈_}
 use Rattle.grid.specs.Figures.{element, reach}
@@ -28,13 +29,9 @@ seven-at cell row col a b = ap (λ l. getD l col 0) (getD-table (λ r. table 7 (
 -- where a place is held
 pub held-bounds : (side p : ℕ) → isHeld side p ≡ true → (3 - reach side ≤ p) × (p < 3 - reach side + side)
 unfolding isHeld
-held-bounds side p e = go (leb (3 - reach side) p) (ltb p (3 - reach side + side)) refl refl e
-  where
-    go : (a b : Bool) → leb (3 - reach side) p ≡ a → ltb p (3 - reach side + side) ≡ b → a && b ≡ true
-        → (3 - reach side ≤ p) × (p < 3 - reach side + side)
-    go true true q r e = (leb-true (3 - reach side) p q, ltb-true p (3 - reach side + side) r)
-    go true false q r e = absurd (false≢true e)
-    go false b q r e = absurd (false≢true e)
+held-bounds side p e =
+    let h = both (leb (3 - reach side) p) (ltb p (3 - reach side + side)) e in
+    (leb-true (3 - reach side) p (h .0), ltb-true p (3 - reach side + side) (h .1))
 
 -- THE CELLS MEAN WHAT THE BYTES MEAN
 pub centred-means : (side : ℕ) (bytes : List ℕ) → isSide side ≡ true → cellSet (centred side bytes) ≈ elementSet side bytes

@@ -7,10 +7,11 @@ use native.Mathlib.Omega.{arith}
 use mathlib.Core.Bool.{Bool, true, false, cond, _&&_}
 use mathlib.Core.Logic.{_⊎_, inl, inr, ⊎-elim}
 use mathlib.Core.List.{List}
-use mathlib.Core.Path.{_≡_, refl, sym, ap, _∙_}
+use mathlib.Core.Path.{_≡_, refl, sym, ap, ap₂, _∙_}
 use lib.ListN.{getD}
 use lib.Dec.{eqb, leb, ltb}
 use borrow.Author.Tests.{eq-eqb, ne-eqb, leb-true, ltb-true}
+use Rattle.basics.proofs.BoundLaws.{both}
 use Rattle.row.specs.RowRule.{Area, none, more, cellNumber, within, levelAt, partner, least}
 use Rattle.row.specs.Passes.{Pass, columnAt, firstOther}
 use Rattle.row.proofs.Pass.{pass-as, pass-and, pass-none}
@@ -20,6 +21,16 @@ pub row-end : (width row rows : ℕ) → row < rows → row * width + width ≤ 
 row-end width row rows h =
     let m : suc row ≤ rows = omega arith in
     omega (arith, suc-mul row width, mul-le-mul-right width m)
+
+-- it goes by the partners alone
+pub least-as : (area area′ : Area) (levels levels′ : List ℕ) (row row′ col k n : ℕ)
+    → ((j : ℕ) → k ≤ j → j < k + n → partner area levels row col j ≡ partner area′ levels′ row′ col j)
+    → least area levels row col k n ≡ least area′ levels′ row′ col k n
+unfolding least
+least-as area area′ levels levels′ row row′ col k zero same = refl
+least-as area area′ levels levels′ row row′ col k (suc n) same =
+    ap₂ min (same k (omega arith) (omega arith))
+    (least-as area area′ levels levels′ row row′ col (suc k) n (λ j a b. same j (omega arith) (omega arith)))
 
 module _ (area : Area) (levels : List ℕ) (row col : ℕ) where
   pub least-small : (k n : ℕ) → least area levels row col k n ≤ none
@@ -70,13 +81,9 @@ cond-same : (t : Bool) (a b rest : ℕ) → (t ≡ true → a ≡ b) → cond t 
 cond-same true a b rest h = h refl
 cond-same false a b rest h = refl
 
-both : (s t : Bool) → s && t ≡ true → (s ≡ true) × (t ≡ true)
-both true t q = (refl, q)
-both false t q = (q, cc)
-
 within-true : (n p : ℕ) → within n p ≡ true → (3 ≤ p) × (p < n + 3)
 unfolding within
-within-true n p q = (leb-true 3 p (both (leb 3 p) (ltb p (n + 3)) q .0), ltb-true p (n + 3) (both (leb 3 p) (ltb p (n + 3)) q .1))
+within-true n p q = let h = both (leb 3 p) (ltb p (n + 3)) q in (leb-true 3 p (h .0), ltb-true p (n + 3) (h .1))
 
 -- levels that differ in the own row alone give the same partners in other rows
 module _ (area : Area) (row : ℕ) (levels after : List ℕ)
@@ -87,10 +94,9 @@ module _ (area : Area) (row : ℕ) (levels after : List ℕ)
   level-same y x other =
       cond-same (within (area .height) y && within (area .width) x) _ _ (area .beyond)
       (λ q.
-      let in-rows : (3 ≤ y) ×
-      (y < area .height + 3) = within-true (area .height) y (both (within (area .height) y) (within (area .width) x) q .0) in
-      let in-row : (3 ≤ x) × (x < area .width + 3) =
-      within-true (area .width) x (both (within (area .height) y) (within (area .width) x) q .1) in
+      let inside = both (within (area .height) y) (within (area .width) x) q in
+      let in-rows = within-true (area .height) y (inside .0) in
+      let in-row = within-true (area .width) x (inside .1) in
       ⊎-elim
       (λ (h : y < row + 3). earlier ((y - 3) * area .width + (x - 3))
       (omega (arith, row-end (area .width) (y - 3) row (omega arith))))
@@ -106,13 +112,9 @@ module _ (area : Area) (row : ℕ) (levels after : List ℕ)
       (⊎-elim (λ (h : k < 21). inl (omega arith)) (λ (h : 28 ≤ k). inr (omega arith)) other))
 
   pub least-same : (col k n : ℕ) → (k + n ≤ 21) ⊎ (28 ≤ k) → least area after row col k n ≡ least area levels row col k n
-  unfolding least
-  least-same col k zero other = refl
-  least-same col k (suc n) other =
-      let here : (k < 21) ⊎ (28 ≤ k) = ⊎-elim (λ (h : k + suc n ≤ 21). inl (omega arith)) (λ (h : 28 ≤ k). inr h) other in
-      let there : (suc k + n ≤ 21) ⊎ (28 ≤ suc k) =
-      ⊎-elim (λ (h : k + suc n ≤ 21). inl (omega arith)) (λ (h : 28 ≤ k). inr (omega arith)) other in
-      rw (partner-same col k here, least-same col (suc k) n there)
+  least-same col k n other =
+      least-as area area after levels row row col k n
+      (λ j a b. partner-same col j (⊎-elim (λ (h : k + n ≤ 21). inl (omega arith)) (λ (h : 28 ≤ k). inr (omega arith)) other))
 
 -- the passes of the cells of other rows, one after the other
 pub pass-cell : (area : Area) (row first n : ℕ) (levels between after : List ℕ) → (first + (n + 1) ≤ 21) ⊎ (28 ≤ first) →

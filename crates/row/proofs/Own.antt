@@ -15,10 +15,10 @@ use Rattle.row.specs.RowRule.{none, more, place}
 use Rattle.row.specs.Passes.{levelBack, picked, nearest, step, Lowest, ownPoint, ownColumns}
 use Rattle.row.proofs.Pass.{ordered, more-least}
 
-pub place-in : (upward : Bool) (width t : ℕ) → t < width → place upward width t < width
+pub place-below : (upward : Bool) (width t : ℕ) → t < width → place upward width t < width
 unfolding place
-place-in false width t h = h
-place-in true width t h = omega arith
+place-below false width t h = h
+place-below true width t h = omega arith
 
 pub place-apart : (upward : Bool) (width s t : ℕ) → s < width → t < width → (s ≡ t → ⊥)
     → place upward width s ≡ place upward width t → ⊥
@@ -40,8 +40,8 @@ by-step level cell partner small = cases (eqb cell 0)
     cases true = omega arith
     cases false = omega arith
 
-both : (level a b c d : ℕ) → min level a ≡ min level c → min level b ≡ min level d → min level (min a b) ≡ min level (min c d)
-both level a b c d p q = apart level a b ∙ rw (p, q) (sym (apart level c d))
+least-both : (level a b c d : ℕ) → min level a ≡ min level c → min level b ≡ min level d → min level (min a b) ≡ min level (min c d)
+least-both level a b c d p q = apart level a b ∙ rw (p, q) (sym (apart level c d))
   where
     apart : (x y z : ℕ) → min x (min y z) ≡ min (min x y) (min x z)
     apart x y z = omega arith
@@ -50,8 +50,8 @@ by-steps : (level one two three near middle far : ℕ) → level ≤ none →
     min level (min (near + step one) (min (middle + step two) (far + step three)))
     ≡ min level (more (nearest one two three near middle far))
 by-steps level one two three near middle far small =
-    both level _ _ _ _ (by-step level one near small)
-    (both level _ _ _ _ (by-step level two middle small) (by-step level three far small))
+    least-both level _ _ _ _ (by-step level one near small)
+    (least-both level _ _ _ _ (by-step level two middle small) (by-step level three far small))
     ∙ rw (
       more-least (picked one near) (min (picked two middle) (picked three far)),
       more-least (picked two middle) (picked three far),
@@ -65,7 +65,7 @@ module _ (upward : Bool) (width start beyond : ℕ) where
       let q : t + 1 - 1 ≡ t = omega arith in
       let p : 1 ≤ t + 1 = omega arith in
       simp (le-leb _ _ p, q) (getD-set-same levels (start + place upward width t) level 0
-      (omega (arith, place-in upward width t h)))
+      (omega (arith, place-below upward width t h)))
 
   back-next : (levels : List ℕ) (t level d : ℕ) → t < width → 1 ≤ d →
       levelBack upward width start beyond (set levels (start + place upward width t) level) (t + 1) (d + 1)
@@ -126,7 +126,7 @@ module _ (upward : Bool) (width start beyond : ℕ) where
   own-unset one two three zero levels unset small = refl
   own-unset one two three (suc t) levels unset small =
       let at : ℕ = start + place upward width t in
-      let q : min (getD levels at 0) 65535 ≡ getD levels at 0 = omega (arith, small at) in
+      let q : min (getD levels at 0) none ≡ getD levels at 0 = omega (arith, small at) in
       rw (
         own-unset one two three t levels unset small,
         eq-eqb one 0 (omega arith),

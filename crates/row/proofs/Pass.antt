@@ -63,6 +63,10 @@ module _ (start : ℕ) (f : ℕ → ℕ) (levels : List ℕ) where
         later = λ i h. other i (λ q. omega arith) ∙ P .later i (omega arith);
       }
 
+  -- and all its turns
+  pub pass-end : (n i : ℕ) (after : List ℕ) → i ≤ n → n ≤ i → Pass start i f levels after → Pass start n f levels after
+  pass-end n i after a b P = let q : n ≡ i = omega arith in rw q P
+
   -- a level that is read before it is reached, or that the pass never reaches, is as it was
   pub pass-unread : (from i n : ℕ) (after : List ℕ) → i < n → (from + n ≤ start) ⊎ (start + n ≤ from)
       → Pass start i f levels after → getD after (from + i) 0 ≡ getD levels (from + i) 0

@@ -18,7 +18,7 @@ use Rattle.row.specs.Passes.{Pass, columnAt, firstOther, cellBack, level
 use Rattle.row.proofs.Pass.{ordered, lower-twice}
 use Rattle.row.proofs.Columns.{within-in, column-in, column-out}
 use Rattle.row.proofs.Least.{least-small, least-split, least-same}
-use Rattle.row.proofs.Own.{place-in, place-apart, place-back}
+use Rattle.row.proofs.Own.{place-below, place-apart, place-back}
 
 -- where the cell that leads d turns back leads, from the column of turn t
 module _ (width t d : ℕ) (turn : t < width) (one : 1 ≤ d) (three : d ≤ 3) where
@@ -52,7 +52,7 @@ module _ (area : Area) (upward : Bool) (row : ℕ) (in-area : row < area .height
       (⊎-elim
       (λ (h : t < d). rw (lt-leb _ _ h) (column-out w (row * w) (area .beyond) levels x (back-out w t d turn one three upward h)))
       (λ (h : d ≤ t).
-      let p : place upward w (t - d) < w = place-in upward w (t - d) (omega arith) in
+      let p : place upward w (t - d) < w = place-below upward w (t - d) (omega arith) in
       let q : x ≡ place upward w (t - d) + 3 = back-in w t d turn one three upward h in
       let z : x - 3 ≡ place upward w (t - d) = omega arith in
       rw (le-leb _ _ h) (column-in w (row * w) (area .beyond) levels x (omega arith) (omega arith)
@@ -129,7 +129,7 @@ module _ (area : Area) (upward : Bool) (row : ℕ) (in-area : row < area .height
     size = P .size;
     room = room;
     done = λ s h k. absurd (omega arith);
-    left = λ s h k. P .inside (place upward (area .width) s) (place-in upward (area .width) s k);
+    left = λ s h k. P .inside (place upward (area .width) s) (place-below upward (area .width) s k);
     earlier = P .earlier;
     later = P .later;
   }
@@ -175,7 +175,7 @@ module _ (area : Area) (upward : Bool) (row : ℕ) (in-area : row < area .height
     ahead-same level =
         let w : ℕ = area .width in
         let at : ℕ = row * w + place upward w t in
-        let p : place upward w t < w = place-in upward w t turn in
+        let p : place upward w t < w = place-below upward w t turn in
         let room : row * w + w ≤ length points = A .room in
         let long : length own ≡ length points = A .size in
         let own-else : (i : ℕ) → (i ≡ at → ⊥)
@@ -224,7 +224,7 @@ module _ (area : Area) (upward : Bool) (row : ℕ) (in-area : row < area .height
       (λ (m : i < row * area .width + area .width).
       let col : ℕ = i - row * area .width in
       let s : ℕ = place upward (area .width) col in
-      let turn : s < area .width = place-in upward (area .width) col (omega arith) in
+      let turn : s < area .width = place-below upward (area .width) col (omega arith) in
       let q : place upward (area .width) s ≡ col = place-back upward (area .width) col (omega arith) in
       let z : row * area .width + place upward (area .width) s ≡ i = omega arith in
       rw z at (A .done s turn turn))

@@ -103,7 +103,8 @@ fn by_cell(
     cells: [[u8; 7]; 7],
     beyond: u16,
 )
-    requires { ⌜ (length (now part) ≡ rows * width) × ((row < rows) × ((rows ≤ longestSide) × ((k < 49) × ((k < 21) ⊎ (28 ≤ k))))) ⌝ }
+    requires { ⌜ (length (now part) ≡ rows * width) ×
+        ((row < rows) × ((rows ≤ longestSide) × ((k < 49) × ((k < 21) ⊎ (28 ≤ k))))) ⌝ }
     ensures { λ _. ⌜ Pass (row * width) width (λ col. least
         (record { width = width; height = rows; beyond = beyond; cells = cells }) (now (part .entry)) row col k 1)
         (now (part .entry)) (now (part .exit)) ⌝ }

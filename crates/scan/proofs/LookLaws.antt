@@ -7,12 +7,12 @@ use mathlib.Core.Bool.{Bool, true, false, cond, _&&_}
 use mathlib.Core.List.{List}
 use Prim.Native.Nat.{ℕ, suc, _+_, _*_, _-_, _/_, _%_, _≤_, _<_}
 use native.Mathlib.Nat.{mul-le-mul-right}
-use native.Mathlib.Decide.{decLt}
 use native.Mathlib.Omega.{arith}
 use lib.Dec.{T, leb, leb→le, le→leb, ltb, ltb→lt, lt→ltb, eqb, eqb→eq}
 use lib.ListN.{length, getD, set}
 use lib.Seq.{getD-set-same, getD-set-other}
 use lib.IntN.{ℤ, pos, negsuc}
+use Rattle.basics.proofs.Arithmetic.{row-of, column-of, entry-below}
 use Rattle.grid.specs.Points.{Point, at, _⊕_}
 use Rattle.grid.specs.Sets.{PointSet}
 use Rattle.grid.specs.Figures.{frame}
@@ -51,13 +51,13 @@ pub cond-false : {A : Type 0} (c : Bool) (x y : A) → ¬ T c → cond c x y ≡
 cond-false true x y n = absurd (n tt)
 cond-false false x y n = refl
 
-both : (a b : Bool) → T a → T b → T (a && b)
-both true b s t = t
-both false b s t = s
+T-both : (a b : Bool) → T a → T b → T (a && b)
+T-both true b s t = t
+T-both false b s t = s
 
-each : (a b : Bool) → T (a && b) → T a × T b
-each true b t = (tt, t)
-each false b t = absurd t
+T-each : (a b : Bool) → T (a && b) → T a × T b
+T-each true b t = (tt, t)
+T-each false b t = absurd t
 
 -- in reading order, and so for places of the list
 abbrev pub Precedes : ℕ → ℕ → ℕ → ℕ → Type 0
@@ -68,23 +68,13 @@ earlier width row col row′ col′ (inl a) b = let c : suc row * width ≤ row�
 earlier width row col row′ col′ (inr (e, a)) b = let c = ap (λ r. r * width) e in omega arith
 
 pub place-in : (width height row col : ℕ) → row < height → col < width → row * width + col < height * width
-place-in width height row col a b = let c : suc row * width ≤ height * width = mul-le-mul-right width a in omega arith
+place-in = entry-below
 
-place-row : (width row col row′ col′ : ℕ) → col < width → col′ < width → row * width + col ≡ row′ * width + col′ → row ≡ row′
-place-row width row col row′ col′ a b e = order (decLt row row′) (decLt row′ row)
-  where
-    order : Dec (row < row′) → Dec (row′ < row) → row ≡ row′
-    order (yes l) d = absurd (let g = earlier width row col row′ col′ (inl l) a in omega arith)
-    order (no n) (yes l) = absurd (let g = earlier width row′ col′ row col (inl l) b in omega arith)
-    order (no n) (no m) = omega arith
-
-place-apart : (width row col row′ col′ : ℕ) → col < width → col′ < width → spot row col ≢ spot row′ col′
+entries-apart : (width row col row′ col′ : ℕ) → col < width → col′ < width → spot row col ≢ spot row′ col′
     → row * width + col ≢ row′ * width + col′
-place-apart width row col row′ col′ a b n e =
-    let r = place-row width row col row′ col′ a b e in
-    let s = ap (λ v. v * width) r in
-    let c : col ≡ col′ = omega arith in
-    n (ap₂ spot r c)
+entries-apart width row col row′ col′ a b n e =
+    n (ap₂ spot (sym (row-of width row col a) ∙ ap (λ k. k / width) e ∙ row-of width row′ col′ b)
+    (sym (column-of width row col a) ∙ ap (λ k. k % width) e ∙ column-of width row′ col′ b))
 
 module _ (area : Area) (levels : List ℕ) where
   pub look-inside : (row col : ℕ) → row < area .height → col < area .width
@@ -92,7 +82,7 @@ module _ (area : Area) (levels : List ℕ) where
   unfolding look levelOn
   look-inside row col a b =
       cond-true (ltb row (area .height) && ltb col (area .width)) _ _
-      (both (ltb row (area .height)) (ltb col (area .width)) (lt→ltb row (area .height) a) (lt→ltb col (area .width) b))
+      (T-both (ltb row (area .height)) (ltb col (area .width)) (lt→ltb row (area .height) a) (lt→ltb col (area .width) b))
 
   pub look-beyond : (p : Point) → ¬ frame (area .width) (area .height) p → look area levels p ≡ area .beyond
   unfolding look levelOn
@@ -101,7 +91,7 @@ module _ (area : Area) (levels : List ℕ) where
       signs : (r c : ℤ) → ¬ frame (area .width) (area .height) (at r c) → levelOn area levels r c ≡ area .beyond
       signs (pos row) (pos col) out =
           cond-false (ltb row (area .height) && ltb col (area .width)) _ _
-          (λ t. let (a, b) = each (ltb row (area .height)) (ltb col (area .width)) t in
+          (λ t. let (a, b) = T-each (ltb row (area .height)) (ltb col (area .width)) t in
           out (row, col, ltb→lt row (area .height) a, ltb→lt col (area .width) b, refl))
       signs (pos row) (negsuc col) out = refl
       signs (negsuc row) c out = refl
@@ -130,10 +120,10 @@ module _ (area : Area) (levels : List ℕ) where
       x = col + k % 7
 
       inside : (n p : ℕ) → 3 ≤ p → p < n + 3 → T (within n p)
-      inside n p a b = both (leb 3 p) (ltb p (n + 3)) (le→leb 3 p a) (lt→ltb p (n + 3) b)
+      inside n p a b = T-both (leb 3 p) (ltb p (n + 3)) (le→leb 3 p a) (lt→ltb p (n + 3) b)
 
       bounds : (n p : ℕ) → T (within n p) → (3 ≤ p) × (p < n + 3)
-      bounds n p t = let (a, b) = each (leb 3 p) (ltb p (n + 3)) t in (leb→le 3 p a, ltb→lt p (n + 3) b)
+      bounds n p t = let (a, b) = T-each (leb 3 p) (ltb p (n + 3)) t in (leb→le 3 p a, ltb→lt p (n + 3) b)
 
       cases : Dec (frame (area .width) (area .height) (spot row col ⊕ offset k))
           → levelAt area levels y x ≡ look area levels (spot row col ⊕ offset k)
@@ -143,13 +133,13 @@ module _ (area : Area) (levels : List ℕ) where
           let m : y - 3 ≡ r = omega arith in
           let n : x - 3 ≡ c = omega arith in
           cond-true (within (area .height) y && within (area .width) x) _ _
-          (both (within (area .height) y) (within (area .width) x) (inside (area .height) y (omega arith) (omega arith))
+          (T-both (within (area .height) y) (within (area .width) x) (inside (area .height) y (omega arith) (omega arith))
           (inside (area .width) x (omega arith) (omega arith)))
           ∙ ap₂ (λ (i j : ℕ). getD levels (i * area .width + j) 0) m n ∙ sym (look-inside r c a b) ∙ ap (look area levels) (sym e)
       cases (no out) =
           cond-false (within (area .height) y && within (area .width) x) _ _
           (λ t.
-          let (a, b) = each (within (area .height) y) (within (area .width) x) t in
+          let (a, b) = T-each (within (area .height) y) (within (area .width) x) t in
           let (a, a′) = bounds (area .height) y a in
           let (b, b′) = bounds (area .width) x b in
           out (y - 3, x - 3, omega arith, omega arith, partner-spot row col k (y - 3) (x - 3) (omega arith) (omega arith)))
@@ -170,7 +160,7 @@ module _ (area : Area) (levels : List ℕ) (row col level : ℕ) (b : col < area
   pub look-same : row < area .height → length levels ≡ area .height * area .width
       → look area (set levels (row * area .width + col) level) (spot row col) ≡ level
   look-same a size =
-      let i = place-in (area .width) (area .height) row col a b in
+      let i = entry-below (area .width) (area .height) row col a b in
       look-inside area (set levels (row * area .width + col) level) row col a b
       ∙ getD-set-same levels (row * area .width + col) level 0 (omega arith)
 
@@ -185,5 +175,5 @@ module _ (area : Area) (levels : List ℕ) (row col level : ℕ) (b : col < area
       cases (yes (r, c, s, t, e)) =
           ap (look area changed) e ∙ look-inside area changed r c s t
           ∙ getD-set-other levels (row * area .width + col) (r * area .width + c) level 0
-          (place-apart (area .width) r c row col t b (λ q. n (e ∙ q)))
+          (entries-apart (area .width) r c row col t b (λ q. n (e ∙ q)))
           ∙ sym (look-inside area levels r c s t) ∙ ap (look area levels) (sym e)

@@ -15,8 +15,9 @@ use Rattle.grid.specs.Sets.{PointSet}
 use Rattle.grid.specs.Figures.{frame}
 use Rattle.grid.proofs.Searches.{frame-decided}
 use Rattle.row.specs.RowRule.{Area, none, more, cellNumber, partner, least, firstMet, lowered, pointRule}
+use Rattle.row.proofs.Least.{least-as}
 use Rattle.scan.specs.Look.{look, offset}
-use Rattle.scan.proofs.Walks.{Pass}
+use Rattle.scan.proofs.Walks.{OnePass}
 use Rattle.scan.proofs.GridScans.{Step, LiveStep}
 use Rattle.scan.proofs.LookLaws.{spot, spot-row, spot-col, look-inside, look-beyond, look-same, look-other, partner-on}
 use Rattle.scan.proofs.LookLaws.{partner-off, partner-row, partner-col}
@@ -59,15 +60,6 @@ module _ (area : Area) (levels : List ℕ) (row col : ℕ) where
           → (j : ℕ) × (k ≤ j) × (j < k + suc n) × (lowest k (suc n) ≡ partner area levels row col j)
       here later (yes h) = (k, omega arith, omega arith, omega arith)
       here later (no h) = let (j, a, b, e) = later (omega arith) in (j, omega arith, omega arith, omega arith)
-
-least-same : (area : Area) (levels levels′ : List ℕ) (row col k n : ℕ)
-    → ((j : ℕ) → k ≤ j → j < k + n → partner area levels row col j ≡ partner area levels′ row col j)
-    → least area levels row col k n ≡ least area levels′ row col k n
-unfolding least
-least-same area levels levels′ row col k zero same = refl
-least-same area levels levels′ row col k (suc n) same =
-    ap₂ min (same k (omega arith) (omega arith))
-    (least-same area levels levels′ row col (suc k) n (λ j a b. same j (omega arith) (omega arith)))
 
 -- the rule at a point, whose own level is given
 abbrev pub ruled : Area → Bool → List ℕ → ℕ → ℕ → ℕ → ℕ
@@ -182,13 +174,13 @@ module _ {area : Area} {upward : Bool} {count : ℕ} {row col : ℕ → ℕ} {tu
       ∙ ap₂ (λ (own met : ℕ). min own (more met))
       (sym (look-inside area (run t) (row t) (col t) i j)
       ∙ still (point t) 0 t (omega arith) (omega arith) (λ s a h e. let q = once t s b (omega arith) e in absurd (omega arith)))
-      (least-same area (run t) done (row t) (col t) (firstMet upward) 24 (partners-ready t b))
+      (least-as area area (run t) done (row t) (row t) (col t) (firstMet upward) 24 (partners-ready t b))
 
   settled : (r c : ℕ) → r < area .height → c < area .width → Settled r c
   settled r c a b = let (h, e, f) = order .visited r c a b in
       subst (λ i. Settled i c) e (subst (λ j. Settled (row (turn r c)) j) f (at-visit (turn r c) h))
 
-  pub order-pass : Pass none (LiveStep (Live area) (met area upward)) (look area levels) (look area done)
+  pub order-pass : OnePass none (LiveStep (Live area) (met area upward)) (look area levels) (look area done)
   order-pass = record { keep = λ x. keep x (inside x); edge = λ x y s. edge x y (inside x) s; from = λ x. from x (inside x) }
     where
       W : Point → ℕ

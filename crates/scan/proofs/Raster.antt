@@ -1,45 +1,28 @@
 -- A scan of all rows down and all rows up is a two-pass scan of the grid.
 -- Rows and columns in reading order, or in that order backwards, are an order of visits; the cells before the centre lead to
 -- earlier points, those after it to later ones. Both directions are one proof.
-use mathlib.Core.Path.{_≡_, refl, sym, _∙_, ap, ap₂, subst}
+use mathlib.Core.Path.{_≡_, sym, _∙_, ap, ap₂, subst}
 use mathlib.Core.Logic.{_⊎_, inl, inr, _≢_}
 use mathlib.Core.Bool.{Bool, true, false}
 use mathlib.Core.List.{List}
 use Prim.Native.Nat.{ℕ, zero, suc, _+_, _*_, _-_, _/_, _%_, _≤_, _<_}
-use native.Mathlib.Nat.{zero-add, add-zero, add-suc, zero-mul, mul-zero, div-add-mod', mod-lt, div-lt-iff-lt-mul}
-use native.Mathlib.Nat.{mul-add-div-right, mul-add-mod-self-right, div-eq-of-lt, mod-eq-of-lt}
+use native.Mathlib.Nat.{zero-add, add-zero, add-suc, zero-mul}
 use native.Mathlib.Decide.{decLt, ℕ-discrete}
 use native.Mathlib.Omega.{arith}
 use lib.Dec.{ltb, lt→ltb, ltb→lt}
 use lib.ListN.{length}
+use Rattle.basics.proofs.Arithmetic.{row-of, column-of, row-below, column-below, entry-of, entry-below}
 use Rattle.grid.specs.Points.{Point, _⊕_}
 use Rattle.grid.proofs.PointLaws.{⊕-origin}
 use Rattle.row.specs.RowRule.{Area, none, cellNumber, firstMet, place, columns, rowRule}
+use Rattle.row.proofs.Own.{place-below, place-back}
 use Rattle.scan.specs.Scan.{scanRow, scanRows}
 use Rattle.scan.specs.Look.{look, fullScan, offset, partners}
-use Rattle.scan.proofs.Walks.{Pass, pass-steps}
+use Rattle.scan.proofs.Walks.{OnePass, pass-steps}
 use Rattle.scan.proofs.GridScans.{GridScan, LiveStep}
-use Rattle.scan.proofs.LookLaws.{cond-true, cond-false, Precedes, earlier, place-in}
+use Rattle.scan.proofs.LookLaws.{cond-true, cond-false, Precedes, earlier}
 use Rattle.scan.proofs.Passes.{Live, met, partnersOf, IsOrder, visits, order-pass}
-use Rattle.scan.proofs.ScanLaws.{place-lt, rows-add, rows-length}
-
--- counted from either end and back
-place-twice : (upward : Bool) (n k : ℕ) → k < n → place upward n (place upward n k) ≡ k
-unfolding place
-place-twice false n k l = refl
-place-twice true n k l = omega arith
-
--- a place of a list of rows, as row and column
-row-of : (width row col : ℕ) → col < width → (row * width + col) / width ≡ row
-row-of width row col b = mul-add-div-right (omega arith) row col ∙ ap (λ q. row + q) (div-eq-of-lt b) ∙ add-zero row
-
-col-of : (width row col : ℕ) → col < width → (row * width + col) % width ≡ col
-col-of width row col b = mul-add-mod-self-right row width col ∙ mod-eq-of-lt b
-
--- where there is a place there is a column
-wide : (width height t : ℕ) → t < height * width → 0 < width
-wide zero height t l = absurd (let z = mul-zero height in omega arith)
-wide (suc width) height t l = omega arith
+use Rattle.scan.proofs.ScanLaws.{rows-add, rows-length}
 
 module _ (area : Area) (upward : Bool) where
   -- the row and the column of turn t, and the turn of a point
@@ -71,25 +54,25 @@ module _ (area : Area) (upward : Bool) where
 
   reading-order : IsOrder area upward (area .height * area .width) rowAt colAt turnAt
   reading-order = record {
-    inside = λ t l. (place-lt upward (area .height) _ (row-in t l), place-lt upward (area .width) _ (col-in t l));
-    turn-of = λ t l. ap₂ (λ (r c : ℕ). r * area .width + c) (place-twice upward (area .height) _ (row-in t l))
-        (place-twice upward (area .width) _ (col-in t l)) ∙ div-add-mod' t (area .width);
+    inside = λ t l. (place-below upward (area .height) _ (row-in t l), place-below upward (area .width) _ (col-in t l));
+    turn-of = λ t l. ap₂ (λ (r c : ℕ). r * area .width + c) (place-back upward (area .height) _ (row-in t l))
+        (place-back upward (area .width) _ (col-in t l)) ∙ entry-of (area .width) t;
     visited = λ r c a b.
-        let a′ = place-lt upward (area .height) r a in
-        let b′ = place-lt upward (area .width) c b in (
-          place-in (area .width) (area .height) _ _ a′ b′,
-          ap (place upward (area .height)) (row-of (area .width) _ _ b′) ∙ place-twice upward (area .height) r a,
-          ap (place upward (area .width)) (col-of (area .width) _ _ b′) ∙ place-twice upward (area .width) c b,
+        let a′ = place-below upward (area .height) r a in
+        let b′ = place-below upward (area .width) c b in (
+          entry-below (area .width) (area .height) _ _ a′ b′,
+          ap (place upward (area .height)) (row-of (area .width) _ _ b′) ∙ place-back upward (area .height) r a,
+          ap (place upward (area .width)) (column-of (area .width) _ _ b′) ∙ place-back upward (area .width) c b,
         );
     before = λ k r c r′ c′ lo hi a b a′ b′ e f.
-        earlier (area .width) _ _ _ _ (met-before k r c r′ c′ lo hi a b a′ b′ e f) (place-lt upward (area .width) c′ b′);
+        earlier (area .width) _ _ _ _ (met-before k r c r′ c′ lo hi a b a′ b′ e f) (place-below upward (area .width) c′ b′);
   }
     where
       row-in : (t : ℕ) → t < area .height * area .width → t / area .width < area .height
-      row-in t l = div-lt-iff-lt-mul (wide (area .width) (area .height) t l) .1 l
+      row-in = row-below (area .width) (area .height)
 
       col-in : (t : ℕ) → t < area .height * area .width → t % area .width < area .width
-      col-in t l = mod-lt t (wide (area .width) (area .height) t l)
+      col-in = column-below (area .width) (area .height)
 
   -- a row of the scan is so many visits
   row-visits : (n t : ℕ) (levels : List ℕ) → t ≤ area .width
@@ -102,7 +85,7 @@ module _ (area : Area) (upward : Bool) where
         add-suc,
         row-visits n t levels (omega arith),
         row-of (area .width) n t (omega arith),
-        col-of (area .width) n t (omega arith),
+        column-of (area .width) n t (omega arith),
       )
 
 -- how many rows are worked before those of a direction
@@ -139,15 +122,15 @@ rows-visits area upward (suc n) levels l =
 module _ (area : Area) (levels : List ℕ) (size : length levels ≡ area .height * area .width) where
   -- all rows of a direction are a pass
   pub direction-pass : (upward : Bool)
-      → Pass none (LiveStep (Live area) (met area upward)) (look area levels)
+      → OnePass none (LiveStep (Live area) (met area upward)) (look area levels)
       (look area (scanRows area (rowsBefore area upward) (area .height) levels))
   direction-pass upward =
-      subst (λ l. Pass none (LiveStep (Live area) (met area upward)) (look area levels) (look area l))
+      subst (λ l. OnePass none (LiveStep (Live area) (met area upward)) (look area levels) (look area l))
       (sym (rows-visits area upward (area .height) levels (omega arith)))
       (order-pass (reading-order area upward) levels size)
 
   -- going up, the centre may be counted among the partners: it leads nowhere
-  pub upward-pass : Pass none (LiveStep (Live area) (partnersOf area 24 25)) (look area levels)
+  pub upward-pass : OnePass none (LiveStep (Live area) (partnersOf area 24 25)) (look area levels)
       (look area (scanRows area (area .height) (area .height) levels))
   unfolding firstMet
   upward-pass = pass-steps (direction-pass true)
@@ -172,7 +155,7 @@ area-scan area levels size = record {
   scan = record {
     mid = look area half;
     down = direction-pass area levels size false;
-    up = subst (λ l. Pass none (LiveStep (Live area) (partnersOf area 24 25)) (look area half) (look area l)) (sym whole)
+    up = subst (λ l. OnePass none (LiveStep (Live area) (partnersOf area 24 25)) (look area half) (look area l)) (sym whole)
         (upward-pass area half (rows-length area 0 (area .height) levels ∙ size));
   };
 }

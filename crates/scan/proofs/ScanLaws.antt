@@ -11,6 +11,7 @@ use native.Mathlib.Omega.{arith}
 use lib.Dec.{ltb, ltb→lt, nltb→le}
 use lib.ListN.{length, getD, set, length-set}
 use Rattle.row.specs.RowRule.{Area, columns, place, pointRule, lowered, rowRule}
+use Rattle.row.proofs.Own.{place-below}
 use Rattle.scan.specs.Scan.{area, Lent, scanRow, scanRows}
 
 -- a scan of m + n rows is one of m rows and then one of n
@@ -20,12 +21,6 @@ unfolding scanRows
 rows-add area done zero n levels = rw (zero-add, add-zero)
 rows-add area done (suc m) n levels = rw (suc-add, add-suc) (rows-add area (suc done) m n (scanRow area done levels) ∙ rw suc-add)
 
--- each column and each row that is worked lies in the area
-pub place-lt : (upward : Bool) (n k : ℕ) → k < n → place upward n k < n
-unfolding place
-place-lt false n k l = l
-place-lt true n k l = omega arith
-
 module _ (P : List ℕ → Type 0) (area : Area)
     (point : (upward : Bool) (row : ℕ) (levels : List ℕ) (col : ℕ) → (0 < area .height → row < area .height) → col < area .width
     → P levels → P (pointRule area upward row levels col)) where
@@ -34,7 +29,7 @@ module _ (P : List ℕ → Type 0) (area : Area)
   unfolding columns
   columns-keep upward row zero levels a b p = p
   columns-keep upward row (suc t) levels a b p =
-      point upward row (columns area upward row t levels) (place upward (area .width) t) a (place-lt upward (area .width) t b)
+      point upward row (columns area upward row t levels) (place upward (area .width) t) a (place-below upward (area .width) t b)
       (columns-keep upward row t levels a (omega arith) p)
 
   row-keep : (done : ℕ) (levels : List ℕ) → P levels → P (scanRow area done levels)

@@ -54,12 +54,12 @@ module _ {P : Type 0} (D U : P → P → Type 0) (swap : (x y z : P) → D x y �
 
 -- W is what a pass makes of S: the least of the level that a point had and one more than each met partner's; a level from `top`
 -- on means none
-pub record Pass {P : Type 0} (top : ℕ) (E : P → P → Type 0) (S W : P → ℕ) : Type 0 where
+pub record OnePass {P : Type 0} (top : ℕ) (E : P → P → Type 0) (S W : P → ℕ) : Type 0 where
   pub keep : (x : P) → W x ≤ S x
   pub edge : (x y : P) → E x y → W x ≤ suc (W y)
   pub from : (x : P) → W x < top → (W x ≡ S x) ⊎ ((y : P) × E x y × (W x ≡ suc (W y)))
 
-module _ {P : Type 0} {top : ℕ} {E : P → P → Type 0} {S W : P → ℕ} (pass : Pass top E S W) where
+module _ {P : Type 0} {top : ℕ} {E : P → P → Type 0} {S W : P → ℕ} (pass : OnePass top E S W) where
   -- a walk to the point that the level comes from
   abbrev Reached : P → Type 0
   Reached x = (n : ℕ) × (y : P) × Walk E n x y × (W x ≡ n + S y)
@@ -76,7 +76,7 @@ module _ {P : Type 0} {top : ℕ} {E : P → P → Type 0} {S W : P → ℕ} (pa
       up-to (suc n) x l h = reached x (λ y m. up-to n y (omega arith) (omega arith)) (pass .from x h)
 
   -- the same pass with other steps: these, and perhaps some that lead nowhere
-  pub pass-steps : {F : P → P → Type 0} → ((x y : P) → E x y → F x y) → ((x y : P) → F x y → E x y ⊎ (x ≡ y)) → Pass top F S W
+  pub pass-steps : {F : P → P → Type 0} → ((x y : P) → E x y → F x y) → ((x y : P) → F x y → E x y ⊎ (x ≡ y)) → OnePass top F S W
   pass-steps {F} f g = record { keep = pass .keep; edge = λ x y s. edge x y (g x y s); from = λ x h. from x (pass .from x h) }
     where
       edge : (x y : P) → E x y ⊎ (x ≡ y) → W x ≤ suc (W y)
@@ -90,8 +90,8 @@ module _ {P : Type 0} {top : ℕ} {E : P → P → Type 0} {S W : P → ℕ} (pa
 -- two passes, first with the partners D, then with U
 pub record Scan {P : Type 0} (top : ℕ) (D U : P → P → Type 0) (S W : P → ℕ) : Type 0 where
   pub mid : P → ℕ
-  pub down : Pass top D S mid
-  pub up : Pass top U mid W
+  pub down : OnePass top D S mid
+  pub up : OnePass top U mid W
 
 module _ {P : Type 0} {top : ℕ} {D U : P → P → Type 0} {S W : P → ℕ} (scan : Scan top D U S W) where
   -- each level is that of a start point, and one more for each step to it

@@ -13,8 +13,9 @@ use lib.Dec.{eqb, leb, ltb}
 use lib.ListN.{length, getD, take, drop, set, take-append-drop, length-take, length-drop, drop-of-length-le}
 use lib.Seq.{length-take-le, take-all, getD-append-add}
 use borrow.Author.Tests.{le-leb, lt-ltb, le-ltb, eq-eqb, ne-eqb}
-use Rattle.row.specs.RowRule.{Area, none, more, cellNumber, within, levelAt, partner, least, firstMet, lowered, pointRule, place}
+use Rattle.row.specs.RowRule.{Area, none, more, cellNumber, within, levelAt, partner, firstMet, lowered, pointRule, place}
 use Rattle.row.specs.RowRule.{columns, rowRule}
+use Rattle.row.proofs.Least.{least-as}
 use borrow.Rule.Slice.PartMut.{putMid}
 use Rattle.scan.specs.Scan.{area, Lent, Within, Reaches}
 
@@ -26,25 +27,25 @@ set-append (x ∷ p) q i v = ap (λ n. set (x ∷ (p ++ q)) n v) (let e : length
 
 module _ (width height beyond : ℕ) (cells : List (List ℕ)) (start : ℕ) (p q : List ℕ) (front : length p ≡ start * width) where
   abbrev whole : Area
-  whole = record { width = width; height = height; beyond = beyond; cells = cells }
+  whole = area width height beyond cells
 
   abbrev part : Area
-  part = record { width = width; height = height - start; beyond = beyond; cells = cells }
+  part = area width (height - start) beyond cells
 
   -- a place of the whole, counted from the part's first
-  place-in : (row col : ℕ) → start ≤ row → row * width + col ≡ length p + ((row - start) * width + col)
-  place-in row col l = let e : start * width + (row - start) * width ≡ row * width = sym (add-mul start (row - start) width)
+  place-from-part : (row col : ℕ) → start ≤ row → row * width + col ≡ length p + ((row - start) * width + col)
+  place-from-part row col l = let e : start * width + (row - start) * width ≡ row * width = sym (add-mul start (row - start) width)
       ∙ ap (λ n. n * width) (let g : start + (row - start) ≡ row = omega arith in g) in omega arith
 
   same-level : (y x : ℕ) → start + 3 ≤ y → levelAt whole (p ++ q) y x ≡ levelAt part q (y - start) x
   unfolding levelAt within
   same-level y x l = go (decLt y (height + 3)) (leb 3 x && ltb x (width + 3))
     where
-      inside : y < height + 3 → (b : Bool)
+      go : Dec (y < height + 3) → (b : Bool)
           → cond ((leb 3 y && ltb y (height + 3)) && b) (getD (p ++ q) ((y - 3) * width + (x - 3)) 0) beyond
           ≡ cond ((leb 3 (y - start) && ltb (y - start) (height - start + 3)) && b)
           (getD q ((y - start - 3) * width + (x - 3)) 0) beyond
-      inside h b =
+      go (yes h) b =
           rw (
             le-leb 3 y (omega arith),
             lt-ltb y (height + 3) h,
@@ -52,27 +53,16 @@ module _ (width height beyond : ℕ) (cells : List (List ℕ)) (start : ℕ) (p 
             lt-ltb (y - start) (height - start + 3) (omega arith),
           )
           (ap (λ v. cond b v beyond)
-          (ap (λ n. getD (p ++ q) n 0) (place-in (y - 3) (x - 3) (omega arith))
+          (ap (λ n. getD (p ++ q) n 0) (place-from-part (y - 3) (x - 3) (omega arith))
           ∙ getD-append-add p q ((y - 3 - start) * width + (x - 3)) 0
           ∙ ap (λ n. getD q (n * width + (x - 3)) 0) (let e : y - 3 - start ≡ y - start - 3 = omega arith in e)))
-
-      outside : height + 3 ≤ y → (b : Bool)
-          → cond ((leb 3 y && ltb y (height + 3)) && b) (getD (p ++ q) ((y - 3) * width + (x - 3)) 0) beyond
-          ≡ cond ((leb 3 (y - start) && ltb (y - start) (height - start + 3)) && b)
-          (getD q ((y - start - 3) * width + (x - 3)) 0) beyond
-      outside h b = rw (
-        le-leb 3 y (omega arith),
-        le-ltb y (height + 3) h,
-        le-leb 3 (y - start) (omega arith),
-        le-ltb (y - start) (height - start + 3) (omega arith),
-      )
-
-      go : Dec (y < height + 3) → (b : Bool)
-          → cond ((leb 3 y && ltb y (height + 3)) && b) (getD (p ++ q) ((y - 3) * width + (x - 3)) 0) beyond
-          ≡ cond ((leb 3 (y - start) && ltb (y - start) (height - start + 3)) && b)
-          (getD q ((y - start - 3) * width + (x - 3)) 0) beyond
-      go (yes h) b = inside h b
-      go (no n) b = outside (omega arith) b
+      go (no n) b =
+          rw (
+            le-leb 3 y (omega arith),
+            le-ltb y (height + 3) (omega arith),
+            le-leb 3 (y - start) (omega arith),
+            le-ltb (y - start) (height - start + 3) (omega arith),
+          )
 
   module _ (row : ℕ) (below : start ≤ row) where
     same-partner : (col k : ℕ) → (cellNumber cells k ≢ 0 → start + 3 ≤ row + k / 7)
@@ -89,43 +79,33 @@ module _ (width height beyond : ℕ) (cells : List (List ℕ)) (start : ℕ) (p 
             (same-level (row + k / 7) (col + k % 7) (met n)
             ∙ ap (λ y. levelAt part q y (col + k % 7)) (let e : row + k / 7 - start ≡ row - start + k / 7 = omega arith in e))
 
-    same-least : (col k n : ℕ) → ((i : ℕ) → k ≤ i → i < k + n → cellNumber cells i ≢ 0 → start + 3 ≤ row + i / 7)
-        → least whole (p ++ q) row col k n ≡ least part q (row - start) col k n
-    unfolding least
-    same-least col k zero met = refl
-    same-least col k (suc n) met =
-        ap₂ min (same-partner col k (met k (omega arith) (omega arith)))
-        (same-least col (suc k) n (λ i a b. met i (omega arith) (omega arith)))
-
     same-point : (upward : Bool) (col : ℕ)
         → ((i : ℕ) → firstMet upward ≤ i → i < firstMet upward + 24 → cellNumber cells i ≢ 0 → start + 3 ≤ row + i / 7)
         → pointRule whole upward row (p ++ q) col ≡ p ++ pointRule part upward (row - start) q col
     unfolding pointRule lowered
     same-point upward col met =
-        ap₂ (λ n v. set (p ++ q) n v) (place-in row col below)
+        ap₂ (λ n v. set (p ++ q) n v) (place-from-part row col below)
         (ap₂ (λ a b. min a (more b))
-        (ap (λ n. getD (p ++ q) n 0) (place-in row col below) ∙ getD-append-add p q ((row - start) * width + col) 0)
-        (same-least col (firstMet upward) 24 met))
+        (ap (λ n. getD (p ++ q) n 0) (place-from-part row col below) ∙ getD-append-add p q ((row - start) * width + col) 0)
+        (least-as whole part (p ++ q) q row (row - start) col (firstMet upward) 24 (λ k a b. same-partner col k (met k a b))))
         ∙ set-append p q ((row - start) * width + col) (lowered part upward q (row - start) col)
 
 module _ (width height beyond : ℕ) (cells : List (List ℕ)) (upward : Bool) (start row : ℕ) (below : start ≤ row)
     (met : (i : ℕ) → firstMet upward ≤ i → i < firstMet upward + 24 → cellNumber cells i ≢ 0 → start + 3 ≤ row + i / 7)
     (p q : List ℕ) (front : length p ≡ start * width) where
-  same-columns : (t : ℕ) → columns (record { width = width; height = height; beyond = beyond; cells = cells }) upward row t
-      (p ++ q) ≡ p ++ columns (record { width = width; height = height - start; beyond = beyond; cells = cells }) upward
-      (row - start) t q
+  same-columns : (t : ℕ) → columns (area width height beyond cells) upward row t (p ++ q)
+      ≡ p ++ columns (area width (height - start) beyond cells) upward (row - start) t q
   unfolding columns
   same-columns zero = refl
   same-columns (suc t) =
-      ap (λ l. pointRule (record { width = width; height = height; beyond = beyond; cells = cells }) upward row l
-      (place upward width t)) (same-columns t)
+      ap (λ l. pointRule (area width height beyond cells) upward row l (place upward width t)) (same-columns t)
       ∙ same-point width height beyond cells start p
-      (columns (record { width = width; height = height - start; beyond = beyond; cells = cells }) upward
-      (row - start) t q) front row below upward (place upward width t) met
+      (columns (area width (height - start) beyond cells) upward (row - start) t q) front row below upward (place upward width t)
+      met
 
   -- THE WINDOW LAW
-  pub row-in-part : rowRule (record { width = width; height = height; beyond = beyond; cells = cells }) upward row (p ++ q) ≡ p ++
-      rowRule (record { width = width; height = height - start; beyond = beyond; cells = cells }) upward (row - start) q
+  pub row-in-part : rowRule (area width height beyond cells) upward row (p ++ q)
+      ≡ p ++ rowRule (area width (height - start) beyond cells) upward (row - start) q
   unfolding rowRule
   row-in-part = same-columns width
 

@@ -2,16 +2,17 @@
 use Prim.Native.Nat.{ℕ, _*_, _≤_}
 use native.Mathlib.Nat.{mul-le-mul}
 use native.Mathlib.Omega.{arith}
-use mathlib.Core.Path.{_≡_, refl, sym, _∙_}
-use mathlib.Core.Bool.{Bool, true, false, not, _||_, true≢false}
+use mathlib.Core.Path.{_≡_}
+use mathlib.Core.Bool.{true, false, not, _||_}
 use mathlib.Core.Logic.{_≢_}
 use mathlib.Core.List.{List, [], _∷_}
 use lib.Dec.{eqb, ltb}
 use lib.ListN.{length}
-use borrow.Author.Tests.{eq-eqb, ne-eqb, eqb-true, eqb-false, ltb-false}
+use borrow.Author.Tests.{eq-eqb, ne-eqb, eqb-true, eqb-false, ltb-false, not-false}
 use Rattle.basics.specs.Limits.{longestSide}
-use Rattle.basics.specs.Refusals.{first}
-use Rattle.basics.proofs.RefusalLaws.{first-refused, first-accepted}
+use Rattle.basics.specs.Refusals.{Refusal, first}
+use Rattle.basics.proofs.BoundLaws.{neither}
+use Rattle.basics.proofs.RefusalLaws.{judged-first, judged-next, first-both, passed}
 use Rattle.sheet.specs.Sheets.{rowBytes, isSideOut, frameRefusals, sheetRefusals}
 
 module _ (side : ℕ) where
@@ -25,12 +26,10 @@ module _ (side : ℕ) where
 
   pub side-in : isSideOut side ≡ false → (1 ≤ side) × (side ≤ longestSide)
   unfolding isSideOut
-  side-in e = go (eqb side 0) (ltb longestSide side) refl refl e
-    where
-      go : (a b : Bool) → eqb side 0 ≡ a → ltb longestSide side ≡ b → a || b ≡ false → (1 ≤ side) × (side ≤ longestSide)
-      go false false p q r = let n = eqb-false side 0 p in (omega arith, ltb-false longestSide side q)
-      go false true p q r = absurd (true≢false r)
-      go true b p q r = absurd (true≢false r)
+  side-in e =
+      let h = neither (eqb side 0) (ltb longestSide side) e in
+      let n = eqb-false side 0 (h .0) in
+      (omega arith, ltb-false longestSide side (h .1))
 
 module _ (width height : ℕ) where
   pub refuse-width : isSideOut width ≡ true → 2 ≡ first (frameRefusals width height)
@@ -43,45 +42,38 @@ module _ (width height : ℕ) where
   accept-frame e f = rw (e, f)
 
   -- an accepted frame has sides from 1 to 4,096
-  pub frame-sides : first (frameRefusals width height) ≡ 0 → ((1 ≤ width) × (width ≤ longestSide)) × ((1 ≤ height) × (height ≤ longestSide))
-  frame-sides e = go (isSideOut width) (isSideOut height) refl refl e
-    where
-      go : (a b : Bool) → isSideOut width ≡ a → isSideOut height ≡ b → first ((2, a || b) ∷ []) ≡ 0
-          → ((1 ≤ width) × (width ≤ longestSide)) × ((1 ≤ height) × (height ≤ longestSide))
-      go false false p q r = (side-in width p, side-in height q)
-      go false true p q r = absurd (omega arith)
-      go true b p q r = absurd (omega arith)
+  pub frame-sides : first (frameRefusals width height) ≡ 0
+      → ((1 ≤ width) × (width ≤ longestSide)) × ((1 ≤ height) × (height ≤ longestSide))
+  frame-sides e =
+      let h = neither (isSideOut width) (isSideOut height) (passed 2 (isSideOut width || isSideOut height) [] (λ z. omega arith) e .0) in
+      (side-in width (h .0), side-in height (h .1))
 
   -- its bytes are few
   pub raster-small : width ≤ longestSide → height ≤ longestSide → height * rowBytes width ≤ longestSide * 512
   raster-small a b = mul-le-mul b (let l : rowBytes width ≤ 512 = omega arith in l)
 
   module _ (bytes : List ℕ) where
+    -- the refusal of bytes that are not the frame's
+    abbrev bytes-wrong : List Refusal
+    bytes-wrong = (3, not (eqb (length bytes) (height * rowBytes width))) ∷ []
+
     pub refuse-frame : (number : ℕ) → number ≢ 0 → number ≡ first (frameRefusals width height)
         → number ≡ first (sheetRefusals width height bytes)
-    refuse-frame number n e = e
-        ∙ sym (first-refused (frameRefusals width height) ((3, not (eqb (length bytes) (height * rowBytes width))) ∷ [])
-        (λ z. n (e ∙ z)))
+    refuse-frame number n e = judged-first (frameRefusals width height) bytes-wrong n e
 
     module _ (f : first (frameRefusals width height) ≡ 0) where
       pub refuse-bytes : length bytes ≢ height * rowBytes width → 3 ≡ first (sheetRefusals width height bytes)
-      refuse-bytes n = sym (first-accepted (frameRefusals width height)
-          ((3, not (eqb (length bytes) (height * rowBytes width))) ∷ []) tt f
-          ∙ rw (ne-eqb (length bytes) (height * rowBytes width) n))
+      refuse-bytes n = judged-next (frameRefusals width height) bytes-wrong tt f
+          (rw (ne-eqb (length bytes) (height * rowBytes width) n))
 
       pub accept-sheet : length bytes ≡ height * rowBytes width → 0 ≡ first (sheetRefusals width height bytes)
-      accept-sheet e = sym (first-accepted (frameRefusals width height)
-          ((3, not (eqb (length bytes) (height * rowBytes width))) ∷ []) tt f
-          ∙ rw (eq-eqb (length bytes) (height * rowBytes width) e))
+      accept-sheet e = judged-next (frameRefusals width height) bytes-wrong tt f
+          (rw (eq-eqb (length bytes) (height * rowBytes width) e))
 
     -- an accepted sheet has an accepted frame and its bytes
     pub sheet-accepted : first (sheetRefusals width height bytes) ≡ 0
         → (first (frameRefusals width height) ≡ 0) × (length bytes ≡ height * rowBytes width)
-    sheet-accepted e = go (isSideOut width || isSideOut height) (eqb (length bytes) (height * rowBytes width)) refl refl e
-      where
-        go : (a b : Bool) → isSideOut width || isSideOut height ≡ a → eqb (length bytes) (height * rowBytes width) ≡ b
-            → first ((2, a) ∷ (3, not b) ∷ []) ≡ 0
-            → (first (frameRefusals width height) ≡ 0) × (length bytes ≡ height * rowBytes width)
-        go false true p q r = (rw p, eqb-true (length bytes) (height * rowBytes width) q)
-        go false false p q r = absurd (omega arith)
-        go true b p q r = absurd (omega arith)
+    sheet-accepted e =
+        let h = first-both (frameRefusals width height) bytes-wrong tt e in
+        let n = passed 3 (not (eqb (length bytes) (height * rowBytes width))) [] (λ z. omega arith) (h .1) .0 in
+        (h .0, eqb-true (length bytes) (height * rowBytes width) (not-false _ n))

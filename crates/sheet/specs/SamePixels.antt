@@ -6,7 +6,8 @@ use lib.ListN.{getD}
 use Rattle.sheet.specs.Sheets.{rowBytes, pixel}
 
 abbrev pub SamePixels : ℕ → ℕ → List ℕ → List ℕ → Type 0
-SamePixels width height one other = (row col : ℕ) → row < height → col < width → pixel width one row col ≡ pixel width other row col
+SamePixels width height one other = (row col : ℕ) → row < height → col < width
+    → pixel width one row col ≡ pixel width other row col
 
 -- how many bits of byte k of a row are padding: those beyond the width, the lowest ones
 abbrev pub paddingBits : ℕ → ℕ → ℕ

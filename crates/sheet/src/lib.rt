@@ -52,7 +52,8 @@ pub fn sheet_refusal(width: usize, height: usize, sheet: &[u8]) -> u32
 
 // The pixel at a row and a column of the frame.
 pub fn pixel_at(width: usize, sheet: &[u8], row: usize, col: usize) -> u8
-    requires { ⌜ (width ≤ longestSide) × ((row < longestSide) × ((col < width) × (row * rowBytes width + col / 8 < length (now sheet)))) ⌝ }
+    requires { ⌜ (width ≤ longestSide) × ((row < longestSide) ×
+        ((col < width) × (row * rowBytes width + col / 8 < length (now sheet)))) ⌝ }
     ensures { λ r. ⌜ r ≡ pixel width (now (sheet .entry)) row col ⌝ }
 {
     let byte = sheet[row * row_bytes(width) + col / 8];

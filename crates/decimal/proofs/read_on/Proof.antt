@@ -9,4 +9,5 @@ sub-digit : tie.Need-sub-digit
 sub-digit c = let b = digit-bounds (c .args .byte) (c .pre .1 .1) in omega arith
 
 pub read-on-spec : {M : Type 1} → statement M
-read-on-spec = tie.close (tie.spec sub-digit (λ c. search needs) (λ c. search needs) (λ c. search needs) (λ c. search needs) (λ c. search needs))
+read-on-spec = tie.close
+    (tie.spec sub-digit (λ c. search needs) (λ c. search needs) (λ c. search needs) (λ c. search needs) (λ c. search needs))

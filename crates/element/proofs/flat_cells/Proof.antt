@@ -17,7 +17,7 @@ abbrev μ-loop : tie.MeasureT-loop
 pub flat-cells-spec : {M : Type 1} → statement M
 unfolding flat raster
 flat-cells-spec =
-    tie.close (tie.spec Inv-loop μ-loop (λ c. filling-start _ _ _ refl) (λ c. search needs) (λ c. search needs) (λ c. search needs)
-    (λ c. search needs) (λ c. search needs) (λ c. search needs)
+    tie.close (tie.spec Inv-loop μ-loop (λ c. filling-start _ _ _ refl) (λ c. search needs) (λ c. search needs)
+    (λ c. search needs) (λ c. search needs) (λ c. search needs) (λ c. search needs)
     (λ c. filling-turn 49 _ _ _ _ (c .before .before .loop .inv) (c .before .loop-test .taken) refl)
     (λ c. filling-end 49 _ _ _ (c .before .loop .inv) (c .loop-test .left)))

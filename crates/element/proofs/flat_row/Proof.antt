@@ -15,7 +15,7 @@ abbrev μ-loop : tie.MeasureT-loop
 
 pub flat-row-spec : {M : Type 1} → statement M
 flat-row-spec =
-    tie.close (tie.spec Inv-loop μ-loop (λ c. filling-start _ _ _ refl) (λ c. search needs) (λ c. search needs) (λ c. search needs)
-    (λ c. search needs) (λ c. search needs) (λ c. search needs)
+    tie.close (tie.spec Inv-loop μ-loop (λ c. filling-start _ _ _ refl) (λ c. search needs) (λ c. search needs)
+    (λ c. search needs) (λ c. search needs) (λ c. search needs) (λ c. search needs)
     (λ c. filling-turn 7 _ _ _ _ (c .before .loop .inv) (c .loop-test .taken) refl)
     (λ c. filling-end 7 _ _ _ (c .before .loop .inv) (c .loop-test .left)))

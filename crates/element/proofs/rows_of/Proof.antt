@@ -18,7 +18,7 @@ abbrev μ-loop : tie.MeasureT-loop
 pub rows-of-spec : {M : Type 1} → statement M
 unfolding unflat sevenBySeven
 rows-of-spec =
-    tie.close (tie.spec Inv-loop μ-loop (λ c. filling-start _ _ _ refl) (λ c κs. search needs) (λ c. search needs) (λ c. search needs)
-    (λ c. search needs) (λ c. search needs)
+    tie.close (tie.spec Inv-loop μ-loop (λ c. filling-start _ _ _ refl) (λ c κs. search needs) (λ c. search needs)
+    (λ c. search needs) (λ c. search needs) (λ c. search needs)
     (λ c. filling-turn 7 _ _ _ _ (c .before .before .loop .inv) (c .before .loop-test .taken) (c .flat-row .ensures))
     (λ c. filling-end 7 _ _ _ (c .before .loop .inv) (c .loop-test .left)))

@@ -17,7 +17,8 @@ abbrev μ-loop : tie.MeasureT-loop
 pub turned-cells-spec : {M : Type 1} → statement M
 unfolding turned sevenBySeven
 turned-cells-spec =
-    tie.close (tie.spec Inv-loop μ-loop (λ c. filling-start _ _ _ refl) (λ c. search needs) (λ c. search needs) (λ c. search needs)
-    (λ c κs. search needs) (λ c. search needs) (λ c. search needs) (λ c. search needs) (λ c. search needs)
-    (λ c. filling-turn 7 _ _ _ _ (c .before .before .before .loop .inv) (c .before .before .loop-test .taken) (c .turned-row .ensures))
+    tie.close (tie.spec Inv-loop μ-loop (λ c. filling-start _ _ _ refl) (λ c. search needs) (λ c. search needs)
+    (λ c. search needs) (λ c κs. search needs) (λ c. search needs) (λ c. search needs) (λ c. search needs) (λ c. search needs)
+    (λ c. filling-turn 7 _ _ _ _ (c .before .before .before .loop .inv) (c .before .before .loop-test .taken)
+    (c .turned-row .ensures))
     (λ c. filling-end 7 _ _ _ (c .before .loop .inv) (c .loop-test .left)))

@@ -4,7 +4,8 @@ use native.Mathlib.Omega.{arith}
 use Prim.Native.Nat.{_-_, _≤_, _<_}
 use mathlib.Core.Path.{_≡_, refl, _∙_}
 use lib.ListN.{length}
-use Rattle.row.proofs.Own.{place-in, Kept, kept-start, kept-turn}
+use Rattle.row.specs.RowRule.{none}
+use Rattle.row.proofs.Own.{place-below, Kept, kept-start, kept-turn}
 use Rattle.row.proofs.by_own_row.Statement.{statement}
 use Rattle.row.proofs.by_own_row.Tie as tie
 
@@ -19,11 +20,11 @@ abbrev μ-loop : tie.MeasureT-loop
 -- the column lies in the row
 in-row : (c : tie.After-column Inv-loop μ-loop)
     → c .column .result < c .before .before .before .before .before .before .before .before .args .width
-in-row c = rw (c .column .ensures) (place-in _ _ _ (omega arith))
+in-row c = rw (c .column .ensures) (place-below _ _ _ (omega arith))
 
 loop-holds : tie.Need-loop-holds Inv-loop μ-loop
 loop-holds c =
-    let small : c .before .before .before .before .before .args .beyond ≤ 65535 = omega arith in
+    let small : c .before .before .before .before .before .args .beyond ≤ none = omega arith in
     (omega arith, (refl, rw (c .wide .ensures .0) (kept-start _ _ _ _ _ _ _ _ small)))
 
 add-at : tie.Need-add-at Inv-loop μ-loop

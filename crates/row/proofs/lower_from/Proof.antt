@@ -2,10 +2,9 @@
 use borrow.Author.Needs.{needs}
 use native.Mathlib.Omega.{arith}
 use Prim.Native.Nat.{_+_, _-_, _≤_, _<_}
-use mathlib.Core.Path.{_≡_}
 use lib.ListN.{getD}
 use Rattle.row.specs.Passes.{Pass}
-use Rattle.row.proofs.Pass.{pass-start, pass-turn, pass-unread}
+use Rattle.row.proofs.Pass.{pass-start, pass-turn, pass-end, pass-unread}
 use Rattle.row.proofs.lower_from.Statement.{statement}
 use Rattle.row.proofs.lower_from.Tie as tie
 
@@ -14,9 +13,6 @@ Inv-loop part₀ at from n i₀ part i = (i ≤ n) × Pass at i (λ j. getD part
 
 abbrev μ-loop : tie.MeasureT-loop
 μ-loop part₀ at from n i₀ part i = n - i
-
-loop-holds : tie.Need-loop-holds Inv-loop μ-loop
-loop-holds c = (search needs, pass-start _ _ _)
 
 loop-again : tie.Need-loop-again Inv-loop μ-loop
 loop-again c =
@@ -32,13 +28,8 @@ loop-again c =
           (rw (← pass-unread _ _ _ _ _ _ _ h (s .pre .1 .1) p) (low .ensures)) p,
     )
 
-returns : tie.Need-returns Inv-loop μ-loop
-returns c =
-    let q : c .before .before .before .args .n ≡ c .before .loop .i = omega arith in
-    rw q (c .before .loop .inv .1)
-
 pub lower-from-spec : {M : Type 1} → statement M
 lower-from-spec =
-    tie.close (tie.spec Inv-loop μ-loop loop-holds (λ c. search needs) (λ c. search needs) (λ c. search needs)
-    (λ c. search needs) (λ c κs. search needs) (λ c. search needs) (λ c. search needs) loop-again (λ c. search needs)
-    returns)
+    tie.close (tie.spec Inv-loop μ-loop (λ c. (search needs, pass-start _ _ _)) (λ c. search needs) (λ c. search needs)
+    (λ c. search needs) (λ c. search needs) (λ c κs. search needs) (λ c. search needs) (λ c. search needs) loop-again (λ c. search needs)
+    (λ c. pass-end _ _ _ _ _ _ (c .before .loop .inv .0) (c .loop-test .left) (c .before .loop .inv .1)))
