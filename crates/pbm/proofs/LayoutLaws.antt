@@ -16,7 +16,7 @@ use Rattle.decimal.proofs.NumberLaws.{digit-bounds}
 use Rattle.pbm.specs.Header.{isWhite, all, run, whiteRun, afterWhite, afterDigits, isNone, Field, missing, number, field}
 use Rattle.pbm.specs.Header.{beginsP4, broken, whole, header, Layout}
 use Rattle.pbm.proofs.RunLaws.{both, run-stops, run-more, run-append, run-other, run-front, run-all, run-some, digit-run}
-use Rattle.pbm.proofs.RunLaws.{none-some, some-none}
+use Rattle.pbm.proofs.RunLaws.{not-empty, not-none}
 use Rattle.pbm.proofs.HeaderLaws.{without-width, without-height, without-end, header-whole}
 
 -- no byte is both
@@ -65,7 +65,7 @@ module _ (white row rest : List ℕ) (n : white ≢ []) (m : row ≢ []) (a : al
 
   field-laid : field (white ++ (row ++ rest)) ≡ number (value row) rest
   unfolding field
-  field-laid = rw (after-white, after-digits, white-run, digits-run, some-none white n, some-none row m)
+  field-laid = rw (after-white, after-digits, white-run, digits-run, not-none white n, not-none row m)
 
 -- the other way: a number that was found is laid out
 laid-field : (bytes : List ℕ) (amount : ℕ) (rest : List ℕ) → field bytes ≡ number amount rest → Laid bytes amount rest
@@ -88,8 +88,8 @@ laid-field bytes amount rest e = go (isNone (whiteRun bytes)) (isNone (digitRun 
           white = whiteRun bytes;
           row = digitRun (afterWhite bytes);
           bytes-are = run-front isWhite bytes ∙ ap (λ l. whiteRun bytes ++ l) (f ∙ ap (λ l. digitRun (afterWhite bytes) ++ l) r);
-          some-white = none-some (whiteRun bytes) p;
-          some-digits = none-some (digitRun (afterWhite bytes)) q;
+          some-white = not-empty (whiteRun bytes) p;
+          some-digits = not-empty (digitRun (afterWhite bytes)) q;
           all-white = run-all isWhite bytes;
           all-digits = ap (all isDigit) d ∙ run-all isDigit (afterWhite bytes);
           amount-is = v;

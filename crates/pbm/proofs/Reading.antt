@@ -16,7 +16,8 @@ use Rattle.sheet.specs.Sheets.{rowBytes, isSideOut, frameRefusals}
 use Rattle.sheet.proofs.FrameLaws.{frame-sides}
 use Rattle.pbm.specs.Header.{Header, broken, whole, beginsP4, header}
 use Rattle.text.specs.Writing.{begun}
-use Rattle.pbm.specs.Pbm.{cleared, isBroken, frameOf, headerRefusals, rasterRefusals, roomRefusals, bodyRefusals, readRefusals}
+use Rattle.pbm.specs.Pbm.{cleared, isBroken, frameOf, headerRefusals, rasterRefusals, roomRefusals, bodyRefusals}
+use Rattle.pbm.specs.Pbm.{readRefusals}
 use Rattle.pbm.specs.Pbm.{readAnswer, ReadsPbm}
 use Rattle.pbm.specs.Steps.{HeaderRead}
 use Rattle.text.proofs.WroteLaws.{part-is, take-begun}
@@ -96,7 +97,7 @@ module _ (file out : List ℕ) where
       frame-in = let s = frame-sides width height frame-accepted in (s .0 .1, s .1 .1)
 
       -- the raster was handed on as a part of the file
-      module _ (judged : ℕ) (e : judged ≡ first (rasterRefusals width height (take (length file - at) (drop at file)))) where
+      module _ {judged : ℕ} (e : judged ≡ first (rasterRefusals width height (take (length file - at) (drop at file)))) where
         judged-is : judged ≡ first (rasterRefusals width height (drop at file))
         judged-is = e ∙ ap (λ raster. first (rasterRefusals width height raster)) (part-is at file)
 
@@ -124,16 +125,17 @@ module _ (file out : List ℕ) where
             pub copy-room : height * rowBytes width ≤ length out
             copy-room = let s = raster-size in let d = length-drop at file in omega arith
 
-            pub read-accepts : (after : List ℕ)
+            pub read-accepts : {after : List ℕ}
                 → after ≡ begun (cleared width height (take (length file - at) (drop at file))) out
                 → ReadsPbm file out 0 width height after
-            read-accepts after h =
+            read-accepts {after} h =
                 let d = length-drop at file in
                 accepts (width, height, after) (whole-accepted file out p4 found frame-accepted (sym judged-is ∙ y) (omega arith))
                 (ap (λ text. (width, height, text)) (h ∙ ap (λ raster. begun (cleared width height raster) out) (part-is at file))
                 ∙ sym (ap (λ h. readAnswer h out) found))
 
--- WHAT WAS READ, where nothing was refused: a whole header with an accepted frame, and its raster, cleared, in front of the output
+-- WHAT WAS READ, where nothing was refused: a whole header with an accepted frame, and its raster, cleared, in front of the
+-- output
 pub record WasRead (file out : List ℕ) (width height : ℕ) (after : List ℕ) : Type 0 where
   pub raster : List ℕ
   pub header-is : header file ≡ whole width height raster

@@ -1,5 +1,6 @@
 -- Round trips, of the contracts alone. A written text is laid out as a header and its raster, so reading finds the frame and the
--- cleared sheet, which has the pixels of the sheet. Clearing again changes nothing, so what was read is written as the text of the
+-- cleared sheet, which has the pixels of the sheet. Clearing again changes nothing, so what was read is written as the text of
+-- the
 -- raster that the file had; and sheets with the same pixels are cleared to one, so they are written alike.
 use Prim.Native.Nat.{ℕ, _*_, _≤_}
 use native.Mathlib.Omega.{arith}
@@ -132,7 +133,8 @@ module _ (file out : List ℕ) (width height : ℕ) (after : List ℕ) (r : WasR
   textOf broken = []
   textOf (whole w h raster) = pbmText w h raster
 
-  same-file : (width′ height′ : ℕ) (sheet : List ℕ) → file ≡ pbmText width′ height′ sheet → pbmText width height (r .raster) ≡ file
+  same-file : (width′ height′ : ℕ) (sheet : List ℕ) → file ≡ pbmText width′ height′ sheet
+      → pbmText width height (r .raster) ≡ file
   unfolding textOf
   same-file width′ height′ sheet e =
       ap textOf (sym (r .header-is) ∙ ap header e ∙ text-header width′ height′ sheet) ∙ text-again width′ height′ sheet ∙ sym e

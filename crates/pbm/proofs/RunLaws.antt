@@ -106,12 +106,12 @@ all-digits [] = refl
 all-digits (byte ∷ rest) = ap (λ t. isDigit byte && t) (all-digits rest)
 
 -- a row that is not empty, as it is tested
-pub none-some : (row : List ℕ) → isNone row ≡ false → row ≢ []
-none-some row e z = eqb-false (length row) 0 e (ap length z)
+pub not-empty : (row : List ℕ) → isNone row ≡ false → row ≢ []
+not-empty row e z = eqb-false (length row) 0 e (ap length z)
 
-pub some-none : (row : List ℕ) → row ≢ [] → isNone row ≡ false
-some-none [] n = absurd (n refl)
-some-none (byte ∷ row) n = ne-eqb (length (byte ∷ row)) 0 (λ z. omega arith)
+pub not-none : (row : List ℕ) → row ≢ [] → isNone row ≡ false
+not-none [] n = absurd (n refl)
+not-none (byte ∷ row) n = ne-eqb (length (byte ∷ row)) 0 (λ z. omega arith)
 
 -- a loop along the run of `kind` from `at` on
 pub record Skipping (kind : ℕ → Bool) (file : List ℕ) (at i : ℕ) : Type 0 where

@@ -64,7 +64,7 @@ module _ (width height : ℕ) (sheet out : List ℕ) where
       → WritesPbm width height sheet out n size′ y → (m ≡ n) × (_≡_ {A = ℕ × List ℕ} (size, x) (size′, y))
   write-unique m n size size′ x y = rule-unique m n (size, x) (size′, y)
 
-  module _ (number : ℕ) (e : number ≡ first (sheetRefusals width height sheet)) where
+  module _ {number : ℕ} (e : number ≡ first (sheetRefusals width height sheet)) where
     pub sheet-refuses : number ≢ 0 → WritesPbm width height sheet out number 0 out
     sheet-refuses n = refuses number n
         (e ∙ sym (first-refused (sheetRefusals width height sheet) (roomRefusals (length (pbmText width height sheet)) out)
@@ -73,6 +73,9 @@ module _ (width height : ℕ) (sheet out : List ℕ) where
     module _ (z : number ≡ 0) where
       sheet-size : length sheet ≡ height * rowBytes width
       sheet-size = sheet-accepted width height sheet (sym e ∙ z) .1
+
+      pub sheet-there : height * rowBytes width ≤ length sheet
+      sheet-there = let q = sheet-size in omega arith
 
       pub sheet-in : (width ≤ longestSide) × (height ≤ longestSide)
       sheet-in = let s = frame-sides width height (sheet-accepted width height sheet (sym e ∙ z) .0) in (s .0 .1, s .1 .1)
@@ -85,7 +88,7 @@ module _ (width height : ℕ) (sheet out : List ℕ) where
           let r = raster-small width height (i .0) (i .1) in
           (length-below 4 width (omega arith) (omega arith), length-below 4 height (omega arith) (omega arith), omega arith)
 
-      module _ (size : ℕ) (s : size ≡ 5 + length (digits width) + length (digits height) + length sheet) where
+      module _ {size : ℕ} (s : size ≡ 5 + length (digits width) + length (digits height) + length sheet) where
         size-is : size ≡ length (pbmText width height sheet)
         unfolding pbmText
         size-is =
@@ -110,15 +113,12 @@ module _ (width height : ℕ) (sheet out : List ℕ) where
           header-room = let h = length-header width height in omega arith
 
           -- the header stands in the output; the rest is lent for the raster
-          module _ (at : ℕ) (now : List ℕ) (h : Wrote (pbmHeader width height) 0 out now at) where
+          module _ {at : ℕ} {now : List ℕ} (h : Wrote (pbmHeader width height) 0 out now at) where
             same-length : length now ≡ length out
             same-length = wrote-length (pbmHeader width height) 0 out now at (let r = header-room in omega arith) h
 
             pub at-room : at ≤ length now
             at-room = let o = same-length in let r = header-room in let p = h .place in omega arith
-
-            pub sheet-there : height * rowBytes width ≤ length sheet
-            sheet-there = let q = sheet-size in omega arith
 
             pub part-room : height * rowBytes width ≤ length (take (length now - at) (drop at now))
             part-room =
@@ -129,10 +129,10 @@ module _ (width height : ℕ) (sheet out : List ℕ) where
                 let q = sheet-size in
                 omega arith
 
-            pub write-accepts : (part : List ℕ) → part ≡ begun (cleared width height sheet) (take (length now - at) (drop at now))
+            pub write-accepts : {part : List ℕ} → part ≡ begun (cleared width height sheet) (take (length now - at) (drop at now))
                 → WritesPbm width height sheet out 0 size (putMid at (length now - at) now part)
             unfolding pbmText
-            write-accepts part q =
+            write-accepts {part} q =
                 let o = size-is in
                 let r : 0 + length (pbmHeader width height ++ cleared width height sheet) ≤ length out = omega arith in
                 let w = wrote-both (pbmHeader width height) (cleared width height sheet) 0 out r h

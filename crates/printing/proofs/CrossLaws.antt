@@ -51,9 +51,9 @@ module _ (width height : ℕ) (sheet : List ℕ) (s : SoundSheet width height sh
     pub starts : StartsErosion width height sheet 3 cross lent 0 (run, start)
     starts = accepts (run, start) start-accepted refl
 
-    pub start-gives : (number : ℕ) (r : Record) (after : List ℕ) → StartsErosion width height sheet 3 cross lent number (r, after)
+    pub start-gives : {number : ℕ} {r : Record} {after : List ℕ} → StartsErosion width height sheet 3 cross lent number (r, after)
         → (r ≡ run) × (after ≡ start)
-    start-gives number r after a = let q = a .accepted (a .refusal ∙ start-accepted) in (ap (λ t. t .0) q, ap (λ t. t .1) q)
+    start-gives a = let q = a .accepted (a .refusal ∙ start-accepted) in (ap (λ t. t .0) q, ap (λ t. t .1) q)
 
   pub cross-started : Started run start
   cross-started = erosion width height sheet 3 cross (replicate (height * width) 0)
@@ -66,24 +66,19 @@ module _ (width height : ℕ) (sheet : List ℕ) (s : SoundSheet width height sh
   all-rows : min mostRows (due run - 0) ≡ due run
   all-rows = let h = frame-sides width height (sheet-accepted width height sheet s .0) .1 .1 in omega arith
 
-  continue-gives-one : (number : ℕ) (r : Record) (done : Bool) (after : List ℕ)
-      → Continues run start mostRows number (r, done, after) → (r ≡ withRows run (due run)) × (after ≡ finished run start)
-  continue-gives-one number r done after a =
+  pub continue-gives : {begun : Record} {levels : List ℕ} → (begun ≡ run) × (levels ≡ start)
+      → {number : ℕ} {r : Record} {done : Bool} {after : List ℕ} → Continues begun levels mostRows number (r, done, after)
+      → (r ≡ withRows run (due run)) × (after ≡ finished run start)
+  continue-gives {begun} {levels} e {number} {r} {done} {after} b =
+      let a = subst (λ x. Continues x start mostRows number (r, done, after)) (e .0)
+      (subst (λ x. Continues begun x mostRows number (r, done, after)) (e .1) b) in
       let z = continue-accept run start mostRows (started-sound run start cross-started 0 (omega arith)) (levels-right start refl)
       (omega arith) in
       let q = a .accepted (a .refusal ∙ sym z) in
-      let e : 0 + min mostRows (due run - 0) ≡ due run = let m = all-rows in omega arith in (
-        ap (λ t. t .0) q ∙ ap (withRows run) e,
-        ap (λ t. t .2) q ∙ ap (λ n. scanRows (areaOf run) 0 n start) all-rows,
+      let n : 0 + min mostRows (due run - 0) ≡ due run = let m = all-rows in omega arith in (
+        ap (λ t. t .0) q ∙ ap (withRows run) n,
+        ap (λ t. t .2) q ∙ ap (λ k. scanRows (areaOf run) 0 k start) all-rows,
       )
-
-  pub continue-gives : (begun : Record) (levels : List ℕ) → (begun ≡ run) × (levels ≡ start)
-      → (number : ℕ) (r : Record) (done : Bool) (after : List ℕ)
-      → Continues begun levels mostRows number (r, done, after) → (r ≡ withRows run (due run)) × (after ≡ finished run start)
-  continue-gives begun levels e number r done after a =
-      continue-gives-one number r done after
-      (subst (λ x. Continues x start mostRows number (r, done, after)) (e .0)
-      (subst (λ x. Continues begun x mostRows number (r, done, after)) (e .1) a))
 
   -- COLLECTING
   abbrev whole : Record
@@ -93,19 +88,14 @@ module _ (width height : ℕ) (sheet : List ℕ) (s : SoundSheet width height sh
   unfolding collected
   collected-rows = refl
 
-  collect-gives-one : (room : List ℕ) → length room ≡ height * width → (number : ℕ) (after : List ℕ)
-      → Collects whole (finished run start) room number after → after ≡ crossLevels width height sheet
-  collect-gives-one room e number after a =
+  pub collect-gives : {r : Record} {levels : List ℕ} → (r ≡ withRows run (due run)) × (levels ≡ finished run start)
+      → (room : List ℕ) → length room ≡ height * width → {number : ℕ} {after : List ℕ}
+      → Collects r levels room number after → after ≡ crossLevels width height sheet
+  collect-gives {r} {levels} q room e {number} {after} c =
+      let a = subst (λ x. Collects x (finished run start) room number after) (q .0)
+      (subst (λ x. Collects r x room number after) (q .1) c) in
       let w = levels-right (finished run start) (rows-length (areaOf run) 0 (due run) start) in
       let b = started-sound run start cross-started (due run) (omega arith) in
       let z : first (collectRefusals whole (finished run start) room) ≡ 0 =
       rw (b, w, eq-eqb (length room) (height * width) e, eq-eqb (due run) (due run) refl) in
       a .accepted (a .refusal ∙ z) ∙ collected-rows
-
-  pub collect-gives : (r : Record) (levels : List ℕ) → (r ≡ withRows run (due run)) × (levels ≡ finished run start)
-      → (room : List ℕ) → length room ≡ height * width → (number : ℕ) (after : List ℕ)
-      → Collects r levels room number after → after ≡ crossLevels width height sheet
-  collect-gives r levels q room e number after a =
-      collect-gives-one room e number after
-      (subst (λ x. Collects x (finished run start) room number after) (q .0)
-      (subst (λ x. Collects r x room number after) (q .1) a))

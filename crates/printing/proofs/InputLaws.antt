@@ -100,7 +100,7 @@ module _ (input room : List ℕ) (small : length input < inputEnd) (space : inpu
   same-refusals = room-idle (headerRefusals input) room (header input)
       (λ width height raster e. let w = raster-within input width height raster e in omega arith)
 
-  module _ (number width height : ℕ) (after : List ℕ) (a : ReadsPbm input room number width height after) where
+  module _ {number width height : ℕ} {after : List ℕ} (a : ReadsPbm input room number width height after) where
     number-is : number ≡ first (fileRefusals input)
     number-is = a .refusal ∙ same-refusals
 
@@ -127,5 +127,5 @@ module _ (input room : List ℕ) (small : length input < inputEnd) (space : inpu
           }
 
       -- the row's bytes as they were counted
-      pub read-found : (row : ℕ) → row ≡ rowBytes width → Found input width height (height * row) after
-      read-found row e = subst (λ n. Found input width height (height * n) after) (sym e) found
+      pub read-found : {row : ℕ} → row ≡ rowBytes width → Found input width height (height * row) after
+      read-found e = subst (λ n. Found input width height (height * n) after) (sym e) found

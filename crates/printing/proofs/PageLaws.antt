@@ -67,21 +67,15 @@ module _ (width height : ℕ) (sheet : List ℕ) where
       fits : length (picture whole levels) ≤ length out
       fits = let t = text-short in omega arith
 
-      prints-one : (number size : ℕ) (after : List ℕ) → WritesPgm whole levels out number (size, after)
-          → Prints (sheetText width height sheet) size after
-      prints-one number size after a =
+      pub picture-prints : {r : Record} {collected : List ℕ} → (r ≡ whole) × (collected ≡ levels) → {number size : ℕ}
+          {after : List ℕ} → WritesPgm r collected out number (size, after) → Prints (sheetText width height sheet) size after
+      picture-prints {r} {collected} e {number} {size} {after} b =
+          let a = subst (λ x. WritesPgm x levels out number (size, after)) (e .0)
+          (subst (λ x. WritesPgm r x out number (size, after)) (e .1) b) in
           let z = pgm-released (crossRun width height) start (cross-started width height sheet s) out fits in
           let q = a .accepted (a .refusal ∙ z) in
           let p = front-prints (picture whole levels) out fits in
           prints-as size after (few l) (subst (λ x. Prints (picture whole levels) (x .0) (x .1)) (sym q) p)
-
-      pub picture-prints : (r : Record) (collected : List ℕ) → (r ≡ whole) × (collected ≡ levels)
-          → (number size : ℕ) (after : List ℕ) → WritesPgm r collected out number (size, after)
-          → Prints (sheetText width height sheet) size after
-      picture-prints r collected e number size after a =
-          prints-one number size after
-          (subst (λ x. WritesPgm x levels out number (size, after)) (e .0)
-          (subst (λ x. WritesPgm r x out number (size, after)) (e .1) a))
 
 -- the parts lent for a sheet of so many pixels
 pub pixels-fit : (width height : ℕ) (sheet : List ℕ) → SoundSheet width height sheet → width * height ≤ longestSide * longestSide

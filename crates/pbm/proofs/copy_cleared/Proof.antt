@@ -43,12 +43,6 @@ slice-write-out c = write-room (c .before .before .before .loop .inv) (c .before
 left-after-requires : tie.Need-left-after-requires Inv-loop μ-loop
 left-after-requires c κs = left-positive (c .before .before .before .loop .inv) (c .before .before .loop-test .taken)
 
-add-k : tie.Need-add-k Inv-loop μ-loop
-add-k c = omega arith
-
-loop-less : tie.Need-loop-less Inv-loop μ-loop
-loop-less c = omega arith
-
 loop-again : tie.Need-loop-again Inv-loop μ-loop
 loop-again c =
     let loop = c .before .before .before .before .loop in
@@ -68,5 +62,6 @@ returns c = clearing-end (c .before .loop .inv) (c .loop-test .left)
 pub copy-cleared-spec : {M : Type 1} → statement M
 copy-cleared-spec =
     tie.close (tie.spec Inv-loop μ-loop (λ c κs. search needs) mul-count (λ c κs. search needs) loop-holds
-    shared-slice-read-cleared-byte cleared-byte-requires slice-write-out left-after-requires add-k loop-less loop-again
+    shared-slice-read-cleared-byte cleared-byte-requires slice-write-out left-after-requires (λ c. omega arith)
+    (λ c. omega arith) loop-again
     same-length returns)

@@ -30,8 +30,9 @@ returns-2 c =
     let read-header = c .before .before .before .before .before .read-header in
     let if1 = c .before .before .before .before .if1 in
     let raster-refusal = c .before .before .raster-refusal in
-    rw (c .read-refused2 .ensures) (raster-refuses (args .file .now) (args .out .now) (read-header .ensures) (if1 .left)
-    (raster-refusal .result) (raster-refusal .ensures) (c .before .if2 .taken))
+    rw (c .read-refused2 .ensures)
+    (raster-refuses (args .file .now) (args .out .now) (read-header .ensures) (if1 .left) (raster-refusal .ensures)
+    (c .before .if2 .taken))
 
 sub-if3 : tie.Need-sub-if3
 sub-if3 c =
@@ -46,8 +47,9 @@ returns-3 c =
     let read-header = c .before .before .before .before .before .before .read-header in
     let if1 = c .before .before .before .before .before .if1 in
     let raster-refusal = c .before .before .before .raster-refusal in
-    rw (c .read-refused3 .ensures) (room-refuses (args .file .now) (args .out .now) (read-header .ensures) (if1 .left)
-    (raster-refusal .result) (raster-refusal .ensures) (c .before .before .if2 .left) (c .before .if3 .taken))
+    rw (c .read-refused3 .ensures)
+    (room-refuses (args .file .now) (args .out .now) (read-header .ensures) (if1 .left) (raster-refusal .ensures)
+    (c .before .before .if2 .left) (c .before .if3 .taken))
 
 sub-copy-cleared : tie.Need-sub-copy-cleared
 sub-copy-cleared c =
@@ -71,9 +73,9 @@ copy-cleared-requires c κs =
       (
         f .1,
         (
-          copy-there (args .file .now) (args .out .now) (read-header .ensures) (if1 .left) (raster-refusal .result)
+          copy-there (args .file .now) (args .out .now) (read-header .ensures) (if1 .left)
               (raster-refusal .ensures) (if2 .left),
-          copy-room (args .file .now) (args .out .now) (read-header .ensures) (if1 .left) (raster-refusal .result)
+          copy-room (args .file .now) (args .out .now) (read-header .ensures) (if1 .left)
               (raster-refusal .ensures) (if2 .left) (c .before .before .if3 .left),
         ),
       ),
@@ -88,8 +90,8 @@ returns-4 c =
     let if2 = c .before .before .before .before .before .before .if2 in
     let if3 = c .before .before .before .before .before .if3 in
     let copy-cleared = c .before .before .copy-cleared in
-    read-accepts (args .file .now) (args .out .now) (read-header .ensures) (if1 .left) (raster-refusal .result)
-    (raster-refusal .ensures) (if2 .left) (if3 .left) (copy-cleared .last .1 .1 .1 .0) (copy-cleared .ensures)
+    read-accepts (args .file .now) (args .out .now) (read-header .ensures) (if1 .left)
+    (raster-refusal .ensures) (if2 .left) (if3 .left) (copy-cleared .ensures)
 
 pub read-pbm-spec : {M : Type 1} → statement M
 read-pbm-spec =

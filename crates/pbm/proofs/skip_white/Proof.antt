@@ -25,9 +25,6 @@ returns c =
     let loop-test = c .before .before .before .loop-test in
     skipping-stop (loop .inv) (loop-test .taken) (sym (c .before .is-white .ensures) ∙ not-true _ (c .if1 .taken))
 
-loop-less : tie.Need-loop-less Inv-loop μ-loop
-loop-less c = omega arith
-
 loop-again : tie.Need-loop-again Inv-loop μ-loop
 loop-again c =
     let loop = c .before .before .before .before .loop in
@@ -40,4 +37,4 @@ returns-2 c = skipping-end (c .before .loop .inv) (c .loop-test .left)
 pub skip-white-spec : {M : Type 1} → statement M
 skip-white-spec =
     tie.close (tie.spec Inv-loop μ-loop loop-holds (λ c. search needs) (λ c κs. search needs) returns
-    (λ c. search needs) loop-less loop-again returns-2)
+    (λ c. search needs) (λ c. omega arith) loop-again returns-2)

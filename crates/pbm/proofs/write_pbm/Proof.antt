@@ -11,22 +11,22 @@ returns c =
     let args = c .before .before .before .before .before .args in
     let sheet-refusal = c .before .before .sheet-refusal in
     rw (c .write-refused .ensures) (sheet-refuses (args .width) (args .height) (args .sheet .now) (args .out .now)
-    (sheet-refusal .result) (sheet-refusal .ensures) (c .before .if1 .taken))
+    (sheet-refusal .ensures) (c .before .if1 .taken))
 
 add-size : tie.Need-add-size
 add-size c =
     let args = c .before .before .before .before .before .args in
     let sheet-refusal = c .before .before .sheet-refusal in
-    let s = small (args .width) (args .height) (args .sheet .now) (args .out .now) (sheet-refusal .result)
-    (sheet-refusal .ensures) (c .before .if1 .left) in
+    let s = small (args .width) (args .height) (args .sheet .now) (args .out .now) (sheet-refusal .ensures)
+    (c .before .if1 .left) in
     let d = c .digit-count .ensures in omega arith
 
 add-size-3 : tie.Need-add-size-3
 add-size-3 c =
     let args = c .before .before .before .before .before .before .args in
     let sheet-refusal = c .before .before .before .sheet-refusal in
-    let s = small (args .width) (args .height) (args .sheet .now) (args .out .now) (sheet-refusal .result)
-    (sheet-refusal .ensures) (c .before .before .if1 .left) in
+    let s = small (args .width) (args .height) (args .sheet .now) (args .out .now) (sheet-refusal .ensures)
+    (c .before .before .if1 .left) in
     let d = c .before .digit-count .ensures in let e = c .digit-count2 .ensures in omega arith
 
 add-size-2 : tie.Need-add-size-2
@@ -38,10 +38,8 @@ returns-2 c =
     let sheet-refusal = c .before .before .before .before .before .sheet-refusal in
     let if1 = c .before .before .before .before .if1 in
     rw (c .write-refused2 .ensures) (write-room-refuses (args .width) (args .height) (args .sheet .now) (args .out .now)
-    (sheet-refusal .result) (sheet-refusal .ensures) (if1 .left) _
-    (sizes _ _ _ _ (args .sheet .now) (c .before .before .before .digit-count .ensures)
-    (c .before .before .digit-count2 .ensures))
-    (c .before .if2 .taken))
+    (sheet-refusal .ensures) (if1 .left) (sizes _ _ _ _ (args .sheet .now) (c .before .before .before .digit-count .ensures)
+    (c .before .before .digit-count2 .ensures)) (c .before .if2 .taken))
 
 write-header-requires : tie.Need-write-header-requires
 write-header-requires c κs =
@@ -49,8 +47,8 @@ write-header-requires c κs =
     let sheet-refusal = c .before .before .before .before .before .sheet-refusal in
     let if1 = c .before .before .before .before .if1 in
     let digit-count = c .before .before .before .digit-count in
-    header-room (args .width) (args .height) (args .sheet .now) (args .out .now) (sheet-refusal .result) (sheet-refusal .ensures)
-    (if1 .left) _ (sizes _ _ _ _ (args .sheet .now) (digit-count .ensures) (c .before .before .digit-count2 .ensures))
+    header-room (args .width) (args .height) (args .sheet .now) (args .out .now) (sheet-refusal .ensures)
+    (if1 .left) (sizes _ _ _ _ (args .sheet .now) (digit-count .ensures) (c .before .before .digit-count2 .ensures))
     (c .before .if2 .left)
 
 sub-copy-cleared : tie.Need-sub-copy-cleared
@@ -62,9 +60,9 @@ sub-copy-cleared c =
     let digit-count2 = c .before .before .before .before .before .digit-count2 in
     let if2 = c .before .before .before .before .if2 in
     let write-header = c .before .before .write-header in
-    at-room (args .width) (args .height) (args .sheet .now) (args .out .now) (sheet-refusal .result) (sheet-refusal .ensures)
-    (if1 .left) _ (sizes _ _ _ _ (args .sheet .now) (digit-count .ensures) (digit-count2 .ensures)) (if2 .left)
-    (write-header .result) (write-header .last .1 .1 .0) (write-header .ensures)
+    at-room (args .width) (args .height) (args .sheet .now) (args .out .now) (sheet-refusal .ensures)
+    (if1 .left) (sizes _ _ _ _ (args .sheet .now) (digit-count .ensures) (digit-count2 .ensures)) (if2 .left)
+    (write-header .ensures)
 
 part-copy-cleared-start : tie.Need-part-copy-cleared-start
 part-copy-cleared-start c = sub-copy-cleared c
@@ -78,20 +76,15 @@ copy-cleared-requires c κs =
     let digit-count2 = c .before .before .before .before .before .before .digit-count2 in
     let if2 = c .before .before .before .before .before .if2 in
     let write-header = c .before .before .before .write-header in
-    let f = sheet-in (args .width) (args .height) (args .sheet .now) (args .out .now) (sheet-refusal .result)
-    (sheet-refusal .ensures) (if1 .left) in (
+    let f = sheet-in (args .width) (args .height) (args .sheet .now) (args .out .now) (sheet-refusal .ensures) (if1 .left) in (
       f .0,
       (
         f .1,
         (
-          sheet-there (args .width) (args .height) (args .sheet .now) (args .out .now) (sheet-refusal .result)
-              (sheet-refusal .ensures) (if1 .left) _
-              (sizes _ _ _ _ (args .sheet .now) (digit-count .ensures) (digit-count2 .ensures))
-              (if2 .left) (write-header .result) (write-header .last .1 .1 .0) (write-header .ensures),
-          part-room (args .width) (args .height) (args .sheet .now) (args .out .now) (sheet-refusal .result)
-              (sheet-refusal .ensures)
-              (if1 .left) _ (sizes _ _ _ _ (args .sheet .now) (digit-count .ensures) (digit-count2 .ensures)) (if2 .left)
-              (write-header .result) (write-header .last .1 .1 .0) (write-header .ensures),
+          sheet-there (args .width) (args .height) (args .sheet .now) (args .out .now) (sheet-refusal .ensures) (if1 .left),
+          part-room (args .width) (args .height) (args .sheet .now) (args .out .now) (sheet-refusal .ensures)
+              (if1 .left) (sizes _ _ _ _ (args .sheet .now) (digit-count .ensures) (digit-count2 .ensures)) (if2 .left)
+              (write-header .ensures),
         ),
       ),
     )
@@ -107,10 +100,9 @@ returns-3 c =
     let if2 = earlier .before .if2 in
     let write-header = c .before .before .before .before .before .before .write-header in
     let copy-cleared = c .before .before .copy-cleared in
-    write-accepts (args .width) (args .height) (args .sheet .now) (args .out .now) (sheet-refusal .result)
-    (sheet-refusal .ensures) (if1 .left) _ (sizes _ _ _ _ (args .sheet .now) (digit-count .ensures) (digit-count2 .ensures))
-    (if2 .left) (write-header .result) (write-header .last .1 .1 .0) (write-header .ensures) (copy-cleared .last .1 .1 .1 .0)
-    (copy-cleared .ensures)
+    write-accepts (args .width) (args .height) (args .sheet .now) (args .out .now) (sheet-refusal .ensures) (if1 .left)
+    (sizes _ _ _ _ (args .sheet .now) (digit-count .ensures) (digit-count2 .ensures))
+    (if2 .left) (write-header .ensures) (copy-cleared .ensures)
 
 pub write-pbm-spec : {M : Type 1} → statement M
 write-pbm-spec =

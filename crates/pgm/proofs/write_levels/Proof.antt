@@ -36,9 +36,6 @@ write-row-requires c κs =
     let turn = loop in
     (levels-row (turn .inv) (pre .0) (loop-test .taken), levels-room (turn .inv) (loop-test .taken))
 
-loop-less : tie.Need-loop-less Inv-loop μ-loop
-loop-less c = omega arith
-
 loop-again : tie.Need-loop-again Inv-loop μ-loop
 loop-again c =
     let loop = c .before .before .before .before .before .before .loop in
@@ -55,4 +52,4 @@ returns c = levels-end (c .before .loop .inv) (c .loop-test .left)
 pub write-levels-spec : {M : Type 1} → statement M
 write-levels-spec =
     tie.close (tie.spec Inv-loop μ-loop loop-holds add-stop mul-write-row (λ c. search needs) (λ c. search needs)
-    part-write-row-end write-row-requires (λ c. search needs) loop-less loop-again same-length returns)
+    part-write-row-end write-row-requires (λ c. search needs) (λ c. omega arith) loop-again same-length returns)

@@ -3,7 +3,6 @@ use Prim.Native.Nat.{_*_}
 use native.Mathlib.Omega.{arith}
 use mathlib.Core.Path.{refl, sym}
 use lib.Seq.{length-take-le}
-use Rattle.sheet.specs.Sheets.{rowBytes}
 use Rattle.printing.proofs.PageLaws.{prints-as}
 use Rattle.printing.proofs.InputLaws.{too-long, read-refused, read-found}
 use borrow.Author.Needs.{needs}
@@ -33,8 +32,8 @@ returns-2 c =
     let if2 = c .before .before .before .before .if2 in
     let write-refused2 = c .before .before .write-refused2 in
     prints-as (write-refused2 .result) (write-refused2 .last .1 .0)
-    (read-refused (args .input .now) (args .sheet .now) (if1 .left) (pre .0) (read-pbm .result .refusal) (read-pbm .result .width)
-    (read-pbm .result .height) (read-pbm .last .1 .0) (read-pbm .ensures) (if2 .taken)) (write-refused2 .ensures)
+    (read-refused (args .input .now) (args .sheet .now) (if1 .left) (pre .0) (read-pbm .ensures) (if2 .taken))
+    (write-refused2 .ensures)
 
 row-bytes-requires : tie.Need-row-bytes-requires
 row-bytes-requires c κs =
@@ -42,9 +41,8 @@ row-bytes-requires c κs =
     let pre = c .before .before .before .before .before .before .before .before .before .before .before .pre in
     let if1 = c .before .before .before .before .before .if1 in
     let read-pbm = c .before .before .before .read-pbm in
-    read-found (args .input .now) (args .sheet .now) (if1 .left) (pre .0) (read-pbm .result .refusal) (read-pbm .result .width)
-    (read-pbm .result .height) (read-pbm .last .1 .0) (read-pbm .ensures) (c .if2 .left)
-    (rowBytes (read-pbm .result .width)) refl .width-most
+    read-found (args .input .now) (args .sheet .now) (if1 .left) (pre .0) (read-pbm .ensures) (c .if2 .left)
+    refl .width-most
 
 mul-size : tie.Need-mul-size
 mul-size c =
@@ -52,9 +50,8 @@ mul-size c =
     let pre = c .before .before .before .before .before .before .before .before .before .before .before .before .pre in
     let if1 = c .before .before .before .before .before .before .if1 in
     let read-pbm = c .before .before .before .before .read-pbm in
-    let l = read-found (args .input .now) (args .sheet .now) (if1 .left) (pre .0) (read-pbm .result .refusal)
-    (read-pbm .result .width) (read-pbm .result .height) (read-pbm .last .1 .0) (read-pbm .ensures) (c .before .if2 .left)
-    (c .row-bytes .result) (c .row-bytes .ensures) .few in
+    let l = read-found (args .input .now) (args .sheet .now) (if1 .left) (pre .0) (read-pbm .ensures) (c .before .if2 .left)
+    (c .row-bytes .ensures) .few in
     omega arith
 
 slice-reshare-prefix-print-sheet : tie.Need-slice-reshare-prefix-print-sheet
@@ -63,8 +60,7 @@ slice-reshare-prefix-print-sheet c =
     let pre = c .before .before .before .before .before .before .before .before .before .before .before .before .pre in
     let if1 = c .before .before .before .before .before .before .if1 in
     let read-pbm = c .before .before .before .before .read-pbm in
-    read-found (args .input .now) (args .sheet .now) (if1 .left) (pre .0) (read-pbm .result .refusal) (read-pbm .result .width)
-    (read-pbm .result .height) (read-pbm .last .1 .0) (read-pbm .ensures) (c .before .if2 .left) (c .row-bytes .result)
+    read-found (args .input .now) (args .sheet .now) (if1 .left) (pre .0) (read-pbm .ensures) (c .before .if2 .left)
     (c .row-bytes .ensures) .fits
 
 slice-aggregate-print-sheet : tie.Need-slice-aggregate-print-sheet
@@ -75,8 +71,7 @@ slice-aggregate-print-sheet c =
     let read-pbm = c .before .before .before .before .before .read-pbm in
     let row-bytes = c .before .row-bytes in
     sym (length-take-le (read-pbm .result .height * row-bytes .result) (read-pbm .last .1 .0)
-    (read-found (args .input .now) (args .sheet .now) (if1 .left) (pre .0) (read-pbm .result .refusal) (read-pbm .result .width)
-    (read-pbm .result .height) (read-pbm .last .1 .0) (read-pbm .ensures) (c .before .before .if2 .left) (row-bytes .result)
+    (read-found (args .input .now) (args .sheet .now) (if1 .left) (pre .0) (read-pbm .ensures) (c .before .before .if2 .left)
     (row-bytes .ensures) .fits))
 
 print-sheet-requires : tie.Need-print-sheet-requires
@@ -88,8 +83,7 @@ print-sheet-requires c κs =
     let read-pbm = c .before .before .before .before .before .before .before .before .read-pbm in
     let if2 = c .before .before .before .before .before .if2 in
     let row-bytes = c .before .before .before .before .row-bytes in (
-      read-found (args .input .now) (args .sheet .now) (if1 .left) (pre .0) (read-pbm .result .refusal) (read-pbm .result .width)
-          (read-pbm .result .height) (read-pbm .last .1 .0) (read-pbm .ensures) (if2 .left) (row-bytes .result)
+      read-found (args .input .now) (args .sheet .now) (if1 .left) (pre .0) (read-pbm .ensures) (if2 .left)
           (row-bytes .ensures) .sound,
       pre .1,
     )
@@ -105,8 +99,7 @@ returns-3 c =
     let row-bytes = c .before .before .before .before .before .before .before .before .before .before .before .row-bytes in
     let print-sheet = c .before .before .before .before .before .before .print-sheet in
     prints-as (print-sheet .result) (print-sheet .last .1 .1 .1 .1 .1 .0)
-    (read-found (args .input .now) (args .sheet .now) (if1 .left) (pre .0) (read-pbm .result .refusal) (read-pbm .result .width)
-    (read-pbm .result .height) (read-pbm .last .1 .0) (read-pbm .ensures) (if2 .left) (row-bytes .result)
+    (read-found (args .input .now) (args .sheet .now) (if1 .left) (pre .0) (read-pbm .ensures) (if2 .left)
     (row-bytes .ensures) .text) (print-sheet .ensures)
 
 pub print-erosion-spec : {M : Type 1} → statement M

@@ -1,7 +1,6 @@
 -- The picture is written without a refusal.
 use Rattle.printing.proofs.PageLaws.{picture-prints}
 use borrow.Author.Needs.{needs}
-use lib.ListN.{length}
 use Rattle.printing.proofs.print_levels.Statement.{statement}
 use Rattle.printing.proofs.print_levels.Tie as tie
 
@@ -13,8 +12,7 @@ returns c =
     let run-erosion = earlier .before .run-erosion in
     let write-pgm = c .before .before .write-pgm in
     picture-prints (args .width) (args .height) (args .sheet .now) (pre .0) (pre .1 .1 .1 .0) (args .out .now) (pre .1 .1 .1 .1)
-    (run-erosion .result) (run-erosion .last .1 .1 .1 .1 .0) (run-erosion .ensures) (write-pgm .result .refusal)
-    (write-pgm .result .length) (write-pgm .last .1 .1 .0) (write-pgm .ensures)
+    (run-erosion .ensures) (write-pgm .ensures)
 
 pub print-levels-spec : {M : Type 1} → statement M
 print-levels-spec =

@@ -13,14 +13,10 @@ returns c =
     let continue-run = c .before .before .before .before .before .before .before .before .continue-run in
     let collect = c .before .before .collect in
     let started = start-gives (args .width) (args .height) (args .sheet .now) (pre .0) (args .levels .now) (pre .1 .0)
-    (start-erosion .result .refusal) (start-erosion .result .run) (start-erosion .last .1 .1 .1 .1 .1 .0)
     (start-erosion .ensures) in
-    let continued = continue-gives (args .width) (args .height) (args .sheet .now) (pre .0) (start-erosion .result .run)
-    (start-erosion .last .1 .1 .1 .1 .1 .0) started (continue-run .result .refusal) (continue-run .result .run)
-    (continue-run .result .done) (continue-run .last .1 .0) (continue-run .ensures) in (
+    let continued = continue-gives (args .width) (args .height) (args .sheet .now) (pre .0) started (continue-run .ensures) in (
       continued .0,
-      collect-gives (args .width) (args .height) (args .sheet .now) (pre .0) (continue-run .result .run)
-          (continue-run .last .1 .0) continued (args .collected .now) (pre .1 .1) (collect .result) (collect .last .1 .1 .0)
+      collect-gives (args .width) (args .height) (args .sheet .now) (pre .0) continued (args .collected .now) (pre .1 .1)
           (collect .ensures),
     )
 
