@@ -1,7 +1,7 @@
 -- Lists of refusals, two in a row judged one after the other; and Answers: a refusing and an accepting call, and no second
 -- outcome.
 use Prim.Native.Nat.{ℕ}
-use mathlib.Core.Path.{_≡_, refl, sym, subst₂, _∙_}
+use mathlib.Core.Path.{_≡_, refl, sym, ap, subst₂, _∙_}
 use mathlib.Core.Bool.{Bool, true, false, not, cond, _&&_}
 use mathlib.Core.List.{List, [], _∷_, _++_}
 use mathlib.Core.Logic.{_≢_}
@@ -34,6 +34,11 @@ first-accepted (r ∷ xs) ys t e = go (r .1) (eqb (r .0) 0) refl t e (first-acce
     go true false q t e ih = absurd (eqb-false (r .0) 0 q e)
     go false true q t e ih = absurd t
     go false false q t e ih = ih t e
+
+-- a last refusal that does not apply
+pub first-idle : (n : ℕ) (xs : List Refusal) → first (xs ++ (n, false) ∷ []) ≡ first xs
+first-idle n [] = refl
+first-idle n (r ∷ xs) = ap (cond (r .1) (r .0)) (first-idle n xs)
 
 -- a number judged by the first list, or by the second where nothing of the first applies
 pub judged-first : {number : ℕ} (xs ys : List Refusal) → number ≢ 0 → number ≡ first xs → number ≡ first (xs ++ ys)

@@ -25,11 +25,11 @@ use Rattle.pgm.proofs.SizeLaws.{within-small, text-bound}
 
 -- the maximum, by the kind
 module _ (r : Record) where
-  pub maximum-erosion : r .kind ≡ 1 → (n : ℕ) → n ≡ max (r .width) (r .height) → n ≡ maximum r
-  maximum-erosion k n e = rw (eq-eqb (r .kind) 1 k) e
+  pub maximum-erosion : isErosion r ≡ true → (n : ℕ) → n ≡ max (r .width) (r .height) → n ≡ maximum r
+  maximum-erosion k n e = rw k e
 
-  pub maximum-dilation : r .kind ≢ 1 → r .cap + 1 ≡ maximum r
-  maximum-dilation k = rw (ne-eqb (r .kind) 1 k)
+  pub maximum-dilation : isErosion r ≡ false → r .cap + 1 ≡ maximum r
+  maximum-dilation k = rw k
 
 module _ (r : Record) (levels out : List ℕ) where
   -- the refusals from each place on

@@ -10,7 +10,6 @@ use mathlib.Core.Bool.{false, true≢false}
 use mathlib.Core.List.{List}
 use lib.IntN.{pos}
 use lib.ListN.{length, getD}
-use borrow.Author.Tests.{le-ltb}
 use Rattle.basics.specs.Bounds.{anyAbove}
 use Rattle.basics.proofs.Arithmetic.{entry-of, row-below, column-below}
 use Rattle.basics.proofs.BoundLaws.{none-above}
@@ -23,14 +22,14 @@ use Rattle.element.specs.Elements.{elementSet}
 use Rattle.element.proofs.Accepted.{Accepted, accepted-origin, accepted-other}
 use Rattle.sheet.specs.Sheets.{pixel, foreground}
 use Rattle.run.specs.declared.Record.{Record}
-use Rattle.run.specs.Records.{due, recordBad}
+use Rattle.run.specs.Records.{due}
 use Rattle.run.specs.Starting.{startRecord}
 use Rattle.run.specs.Continuing.{withRows}
 use Rattle.run.specs.Pictures.{frameLevel, collectedLevel, collected}
-use Rattle.run.specs.Series.{Started, erosion, dilation}
+use Rattle.run.specs.Series.{erosion, dilation}
 use Rattle.run.specs.Demand2.{finished}
 use Rattle.run.proofs.Starts.{judged, erosion-taken}
-use Rattle.run.proofs.Started.{is-start, foreign-rows}
+use Rattle.run.proofs.Started.{started-sound}
 use Rattle.run.proofs.Demand2.{erosion-picture, dilation-picture}
 use Rattle.pgm.specs.WritePgm.{maximum}
 use Rattle.pgm.specs.Released.{LevelsWithin, PgmUnfinishedRefused, PgmNoneReleased, PgmReleased}
@@ -89,11 +88,6 @@ levels-within r levels (dilation width height sheet side bytes cap lent a) =
 -- AN UNFINISHED RUN
 pub pgm-unfinished-refused : PgmUnfinishedRefused
 pgm-unfinished-refused r e levels out z = true≢false (sym (picture-accepted r levels out z .3) ∙ e)
-
--- a started run's record is sound after any number of its rows
-pub started-sound : (r : Record) (levels : List ℕ) → Started r levels → (n : ℕ) → n ≤ due r → recordBad (withRows r n) ≡ false
-unfolding recordBad
-started-sound r levels started n l = rw (foreign-rows r n, is-start started .taken, le-ltb (due r) n l)
 
 pub pgm-none-released : PgmNoneReleased
 pgm-none-released r levels started n l lent out size within room =

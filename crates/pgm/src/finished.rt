@@ -25,7 +25,7 @@ fn maximum_of(run: Record) -> usize
     requires { ⌜ foreign run ≡ false ⌝ }
     ensures { λ r. ⌜ r ≡ maximum run ⌝ }
 {
-    if run.kind == 1 {
+    if run::kinds::is_erosion(run) {
         return larger(run.width, run.height);
     }
     run.cap + 1

@@ -25,9 +25,8 @@ use Rattle.run.specs.Pictures.{collected, collectRefusals, Collects}
 use Rattle.run.specs.Series.{Started, erosion}
 use Rattle.run.specs.Demand2.{finished}
 use Rattle.run.proofs.Starts.{erosion-fits}
-use Rattle.run.proofs.Started.{is-start}
+use Rattle.run.proofs.Started.{is-start, started-sound}
 use Rattle.run.proofs.ContinueLaws.{continue-accept}
-use Rattle.pgm.proofs.Released.{started-sound}
 use Rattle.printing.specs.Printing.{cross, crossRun, crossLevels}
 use Rattle.printing.specs.Steps.{SoundSheet}
 

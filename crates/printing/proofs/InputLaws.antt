@@ -6,13 +6,13 @@ use Prim.Native.Nat.{ℕ, _*_, _≤_, _<_}
 use native.Mathlib.Omega.{arith}
 use mathlib.Core.Path.{_≡_, refl, sym, ap, subst, _∙_}
 use mathlib.Core.Logic.{_≢_}
-use mathlib.Core.Bool.{Bool, false, not, cond}
+use mathlib.Core.Bool.{Bool, false, not}
 use mathlib.Core.List.{List, [], _∷_, _++_, append-assoc}
 use lib.ListN.{length, take, length-append}
 use borrow.Author.Tests.{le-leb, lt-leb, eq-eqb, ne-eqb, le-ltb}
 use Rattle.basics.specs.Limits.{longestSide}
 use Rattle.basics.specs.Refusals.{Refusal, first}
-use Rattle.basics.proofs.RefusalLaws.{first-both, passed}
+use Rattle.basics.proofs.RefusalLaws.{first-both, passed, first-idle}
 use Rattle.sheet.specs.Sheets.{rowBytes, frameRefusals}
 use Rattle.sheet.proofs.FrameLaws.{frame-sides, accept-sheet}
 use Rattle.pbm.specs.Header.{Header, broken, whole, beginsP4, header}
@@ -56,11 +56,6 @@ raster-within file width height raster e =
     let s = length-append (y .heightDigits) last in
     omega arith
 
--- a refusal that does not apply, at the end
-idle : (n : ℕ) (xs : List Refusal) → first (xs ++ (n, false) ∷ []) ≡ first xs
-idle n [] = refl
-idle n (r ∷ xs) = ap (cond (r .1) (r .0)) (idle n xs)
-
 room-idle : (front : List Refusal) (room : List ℕ) (h : Header)
     → ((width height : ℕ) (raster : List ℕ) → h ≡ whole width height raster → length raster ≤ length room)
     → first (front ++ bodyRefusals h room) ≡ first (front ++ rasterOf h)
@@ -69,7 +64,7 @@ room-idle front room (whole width height raster) fits =
     ap (λ (t : Bool). first (front ++ (rasterRefusals width height raster ++ (11, t) ∷ [])))
     (le-ltb (length room) (length raster) (fits width height raster refl))
     ∙ ap first (sym (append-assoc front (rasterRefusals width height raster) ((11, false) ∷ [])))
-    ∙ idle 11 (front ++ rasterRefusals width height raster)
+    ∙ first-idle 11 (front ++ rasterRefusals width height raster)
 
 -- a file without refusals whose header is whole: its sheet
 module _ (input : List ℕ) (none : first (fileRefusals input) ≡ 0) where

@@ -9,6 +9,7 @@ use mathlib.Core.List.{List}
 use lib.ListN.{length, take}
 use lib.Seq.{length-take-le}
 use borrow.Author.Tests.{lt-ltb, le-ltb}
+use Rattle.run.proofs.Started.{started-sound}
 use Rattle.basics.specs.Limits.{longestSide}
 use Rattle.sheet.proofs.FrameLaws.{frame-sides, sheet-accepted}
 use Rattle.row.specs.RowRule.{none}
@@ -21,7 +22,7 @@ use Rattle.run.specs.Continuing.{withRows}
 use Rattle.run.specs.Demand2.{finished}
 use Rattle.pgm.specs.WritePgm.{picture, WritesPgm}
 use Rattle.pgm.proofs.FinishedLaws.{picture-short}
-use Rattle.pgm.proofs.Released.{collected-length, levels-within, started-sound, pgm-released}
+use Rattle.pgm.proofs.Released.{collected-length, levels-within, pgm-released}
 use Rattle.printing.specs.Printing.{mostPixels, textRoom, refusedText, crossRun, crossLevels, sheetText}
 use Rattle.printing.specs.Steps.{Prints, SoundSheet}
 use Rattle.printing.proofs.CrossLaws.{cross-started}

@@ -22,7 +22,7 @@ use Rattle.run.specs.Continuing.{levelsWrong, withRows, continued, conti
 use Rattle.run.specs.Pictures.{sizeLimit, collectRefusals, thresholdRefusals}
 use Rattle.run.specs.Series.{Started, State, Slice, Allowed, IsSeries, begun, next, after, allowed, unbroken, rowsWorked}
 use Rattle.run.specs.Series.{SeriesExist, CutsDoNotShow, AcceptedExactly, NoneReleased, UnfinishedRefused, Released}
-use Rattle.run.proofs.Started.{IsStart, is-start, foreign-rows}
+use Rattle.run.proofs.Started.{IsStart, is-start, started-sound}
 
 module _ (r : Record) (levels : List ℕ) (s : IsStart r levels) where
   -- a call in a run that has n rows done so far
@@ -103,10 +103,6 @@ series-exist s (allowance ∷ rest) =
 
 -- what is in order in every state of a run
 module _ (r : Record) (levels : List ℕ) (started : Started r levels) (n : ℕ) (within : n ≤ due r) where
-  pub sound-rows : recordBad (withRows r n) ≡ false
-  unfolding recordBad
-  sound-rows = rw (foreign-rows r n, is-start started .taken, le-ltb (due r) n within)
-
   pub levels-fit : levelsWrong (withRows r n) (scanRows (areaOf r) 0 n levels) ≡ false
   levels-fit =
       rw (eq-eqb (length (scanRows (areaOf r) 0 n levels)) (areaHeight r * areaWidth r)
@@ -117,7 +113,7 @@ accepted-exactly r levels started series p allowance number answer c =
     let n = rowsWorked r series in
     let here = cuts-do-not-show r levels started series p in
     let judged = ap (λ (t : State). first (continueRefusals (t .0) (t .2) allowance)) here in
-    c .refusal ∙ judged ∙ rw (sound-rows r levels started n (omega arith), levels-fit r levels started n (omega arith))
+    c .refusal ∙ judged ∙ rw (started-sound r levels started n (omega arith), levels-fit r levels started n (omega arith))
 
 -- no picture before all rows are done
 pub unfinished-refused : UnfinishedRefused
@@ -145,7 +141,7 @@ module _ (r : Record) (levels : List ℕ) (started : Started r levels) (n : ℕ)
       ((out : List ℕ) → length out ≡ r .height * rowBytes (r .width)
       → first (thresholdRefusals (withRows r n) (scanRows (areaOf r) 0 n levels) size out) ≡ cond (eqb n (due r)) 0 13)
   by-rows =
-      let a = sound-rows r levels started n within in
+      let a = started-sound r levels started n within in
       let b = levels-fit r levels started n within in (
         (λ out q. rw (a, b, eq-eqb (length out) (r .height * r .width) q) (last (eqb n (due r)))),
         (λ out q. rw (a, le-ltb (sizeLimit r) size small, b, eq-eqb (length out) (r .height * rowBytes (r .width)) q)

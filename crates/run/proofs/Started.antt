@@ -20,7 +20,7 @@ use Rattle.sheet.specs.Sheets.{rowBytes, isSideOut, sheetRefusals}
 use Rattle.sheet.proofs.FrameLaws.{accept-frame, accept-sheet}
 use Rattle.row.specs.RowRule.{none}
 use Rattle.run.specs.declared.Record.{Record}
-use Rattle.run.specs.Records.{marginOf, canvasSide, areaWidth, areaHeight, capForeign, foreign}
+use Rattle.run.specs.Records.{marginOf, canvasSide, areaWidth, areaHeight, capForeign, foreign, due, recordBad}
 use Rattle.run.specs.Starting.{startRecord, inked, startLevels, erosionRefusals, dilationRefusals}
 use Rattle.run.specs.Continuing.{withRows}
 use Rattle.run.specs.Series.{Started, erosion, dilation}
@@ -167,6 +167,11 @@ module _ (r : Record) (s : Sound r) (size : length (r .cells) ≡ 49) where
 pub foreign-rows : (r : Record) (n : ℕ) → foreign (withRows r n) ≡ foreign r
 unfolding foreign capForeign
 foreign-rows r n = refl
+
+-- a started run's record is sound after any number of its rows
+pub started-sound : (r : Record) (levels : List ℕ) → Started r levels → (n : ℕ) → n ≤ due r → recordBad (withRows r n) ≡ false
+unfolding recordBad
+started-sound r levels started n l = rw (foreign-rows r n, is-start started .taken, le-ltb (due r) n l)
 
 -- REFUSAL 1 IS EXACT
 pub foreign-exact : (r : Record) → length (r .cells) ≡ 49
