@@ -45,7 +45,8 @@ module _ (width height : ℕ) where
   pub frame-sides : first (frameRefusals width height) ≡ 0
       → ((1 ≤ width) × (width ≤ longestSide)) × ((1 ≤ height) × (height ≤ longestSide))
   frame-sides e =
-      let h = neither (isSideOut width) (isSideOut height) (passed 2 (isSideOut width || isSideOut height) [] (λ z. omega arith) e .0) in
+      let in-range = passed 2 (isSideOut width || isSideOut height) [] (λ z. omega arith) e .0 in
+      let h = neither (isSideOut width) (isSideOut height) in-range in
       (side-in width (h .0), side-in height (h .1))
 
   -- its bytes are few

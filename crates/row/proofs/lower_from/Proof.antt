@@ -31,5 +31,6 @@ loop-again c =
 pub lower-from-spec : {M : Type 1} → statement M
 lower-from-spec =
     tie.close (tie.spec Inv-loop μ-loop (λ c. (search needs, pass-start _ _ _)) (λ c. search needs) (λ c. search needs)
-    (λ c. search needs) (λ c. search needs) (λ c κs. search needs) (λ c. search needs) (λ c. search needs) loop-again (λ c. search needs)
+    (λ c. search needs) (λ c. search needs) (λ c κs. search needs) (λ c. search needs) (λ c. search needs) loop-again
+    (λ c. search needs)
     (λ c. pass-end _ _ _ _ _ _ (c .before .loop .inv .0) (c .loop-test .left) (c .before .loop .inv .1)))
