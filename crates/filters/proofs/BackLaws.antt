@@ -1,4 +1,5 @@
--- The way back, of either kind: its record is sound, its area is the first run's, and its start stands on the set that the first
+-- The way back, of either kind: its record is sound, its area is the first run's, and its start stands on the set that the
+-- first
 -- run holds.
 use Prim.Native.Nat.{ℕ, suc, _+_, _*_, _≤_, _<_}
 use native.Mathlib.Nat.{zero-mul}
@@ -10,6 +11,7 @@ use mathlib.Core.List.{List}
 use lib.Dec.{leb}
 use lib.ListN.{length, getD}
 use borrow.Author.Tests.{ne-eqb, le-ltb, le-leb, leb-true}
+use Rattle.basics.specs.Limits.{longestSide}
 use Rattle.basics.proofs.BoundLaws.{neither}
 use Rattle.basics.proofs.TableLaws.{length-table, getD-table}
 use Rattle.grid.specs.Points.{Point}
@@ -43,9 +45,9 @@ module _ (r : Record) where
   pub back-height : areaHeight (back r) ≡ areaHeight r
   back-height = let z = zero-mul (reach (r .side)) in omega arith
 
-side-ok : (side : ℕ) → 1 ≤ side → side ≤ 4096 → isSideOut side ≡ false
+side-ok : (side : ℕ) → 1 ≤ side → side ≤ longestSide → isSideOut side ≡ false
 unfolding isSideOut
-side-ok side a b = rw (ne-eqb side 0 (λ z. absurd (omega arith)), le-ltb 4096 side b)
+side-ok side a b = rw (ne-eqb side 0 (λ z. absurd (omega arith)), le-ltb longestSide side b)
 
 -- the way back is a run that a start could give
 pub back-taken : (r : Record) → foreign r ≡ false → foreign (back r) ≡ false
@@ -60,24 +62,19 @@ back-taken r e =
       side-ok (areaWidth r) (omega arith) (s .area-wide),
       side-ok (areaHeight r) (omega arith) (s .area-high),
       g .1,
-    ) (cap-taken (isErosion r) s)
+    ) (cap-taken (isErosion r) refl s)
   where
-    cap-taken : (t : Bool) → Sound r
-        → capForeign (record {
-          kind = cond t 2 1;
-          width = areaWidth r;
-          height = areaHeight r;
-          cap = 0;
-          side = r .side;
-          rows = 0;
-          cells = r .cells;
-        }) ≡ false
-    cap-taken true s =
+    cap-taken : (t : Bool) → isErosion r ≡ t → Sound r → capForeign (back r) ≡ false
+    cap-taken true e s =
         let z = zero-mul (reach (r .side)) in
         let a = s .area-wide in
         let b = s .area-high in
-        rw (le-ltb 4096 (areaWidth (back r)) (omega arith), le-ltb 4096 (areaHeight (back r)) (omega arith))
-    cap-taken false s = refl
+        rw (
+          e,
+          le-ltb longestSide (areaWidth (back r)) (omega arith),
+          le-ltb longestSide (areaHeight (back r)) (omega arith),
+        )
+    cap-taken false e s = rw e
 
 -- the start of the way back, where the first run holds the points of S at a size
 module _ (r : Record) (first : List ℕ) (n : ℕ) (S : PointSet) (size : length first ≡ areaHeight r * areaWidth r)

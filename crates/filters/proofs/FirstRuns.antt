@@ -25,7 +25,7 @@ use Rattle.filters.specs.declared.judging.Plan.{Plan}
 use Rattle.filters.specs.Filters.{foregroundOf, elementOf}
 use Rattle.filters.specs.Plans.{capOf, startRefusals, firstRecord, firstStart, firstLevels, filtered}
 use Rattle.filters.specs.Back.{Ready}
-use Rattle.filters.proofs.Refusing.{cap-small, start-taken, no-margin}
+use Rattle.filters.proofs.Refusing.{planOf, cap-within, start-taken, no-margin}
 use Rattle.filters.proofs.WayBack.{HoldsBack, opening-back, closing-back}
 
 -- the sizes that the way back may be taken for: those of an opening, or those up to the cap
@@ -33,28 +33,25 @@ abbrev pub lastSize : Plan → ℕ
 lastSize plan = cond (plan .closing) (plan .size) largestSize
 
 module _ (input : Input) (sheet bytes lent : List ℕ) where
-  abbrev planOf : Bool → ℕ → Bool → Plan
-  planOf closing size packed = record { closing = closing; size = size; packed = packed }
-
-  abbrev Accepts : Plan → Type 0
+  abbrev pub Accepts : Plan → Type 0
   Accepts plan = first (startRefusals input sheet bytes plan (length lent)) ≡ 0
 
   abbrev Begun : Plan → Record → List ℕ → Type 0
   Begun plan run levels = (run ≡ firstRecord input bytes plan) × (levels ≡ firstStart input sheet plan)
 
   -- each start accepts what its plan has accepted
-  dilation-taken : (size : ℕ) (packed : Bool) → Accepts (planOf true size packed)
+  dilation-accepts : (size : ℕ) (packed : Bool) → Accepts (planOf true size packed)
       → first (dilationRefusals (input .width) (input .height) sheet (input .side) bytes (capOf (planOf true size packed)) lent)
       ≡ 0
-  dilation-taken size packed z =
+  dilation-accepts size packed z =
       let plan = planOf true size packed in
       let t = start-taken input sheet bytes plan (length lent) z in
       sym (dilation-canvas (input .width) (input .height) sheet (input .side) bytes (capOf plan) lent (t .common)
-      (cap-small input sheet bytes plan (t .size-good)) (sym (t .canvas-good)))
+      (cap-within input sheet bytes plan (t .size-good)) (sym (t .canvas-good)))
 
-  erosion-taken : (size : ℕ) (packed : Bool) → Accepts (planOf false size packed)
+  erosion-accepts : (size : ℕ) (packed : Bool) → Accepts (planOf false size packed)
       → first (erosionRefusals (input .width) (input .height) sheet (input .side) bytes lent) ≡ 0
-  erosion-taken size packed z =
+  erosion-accepts size packed z =
       let t = start-taken input sheet bytes (planOf false size packed) (length lent) z in
       sym (erosion-fits (input .width) (input .height) sheet (input .side) bytes lent (t .common)
       (t .work-size ∙ ap₂ (λ h w. h * w) (no-margin (input .side) (input .height)) (no-margin (input .side) (input .width))))
@@ -75,7 +72,7 @@ module _ (input : Input) (sheet bytes lent : List ℕ) where
             number (run, levels)
             → Begun (planOf t (plan .size) (plan .packed)) run levels
         go true e z a =
-            let q = a .accepted (a .refusal ∙ dilation-taken (plan .size) (plan .packed) z) in
+            let q = a .accepted (a .refusal ∙ dilation-accepts (plan .size) (plan .packed) z) in
             (ap (λ t. t .0) q, ap (λ t. t .1) q)
         go false e z a = absurd (false≢true e)
 
@@ -89,7 +86,7 @@ module _ (input : Input) (sheet bytes lent : List ℕ) where
             → Begun (planOf t (plan .size) (plan .packed)) run levels
         go true e z a = absurd (false≢true (sym e))
         go false e z a =
-            let q = a .accepted (a .refusal ∙ erosion-taken (plan .size) (plan .packed) z) in
+            let q = a .accepted (a .refusal ∙ erosion-accepts (plan .size) (plan .packed) z) in
             (ap (λ t. t .0) q, frame-start (ap (λ t. t .1) q))
 
   -- it is a run that a start gives
@@ -100,11 +97,11 @@ module _ (input : Input) (sheet bytes lent : List ℕ) where
           → IsStart (firstRecord input bytes (planOf closing size packed)) (firstStart input sheet (planOf closing size packed))
       go true size packed z =
           is-start (dilation (input .width) (input .height) sheet (input .side) bytes
-          (capOf (planOf true size packed)) lent (accepts _ (dilation-taken size packed z) refl))
+          (capOf (planOf true size packed)) lent (accepts _ (dilation-accepts size packed z) refl))
       go false size packed z =
           subst (IsStart _) (frame-start refl)
           (is-start (erosion (input .width) (input .height) sheet (input .side) bytes lent
-          (accepts _ (erosion-taken size packed z) refl)))
+          (accepts _ (erosion-accepts size packed z) refl)))
 
   module _ (plan : Plan) (z : Accepts plan) where
     abbrev r : Record

@@ -17,24 +17,24 @@ use Rattle.run.proofs.Starts.{judged}
 use Rattle.filters.specs.declared.Input.{Input}
 use Rattle.filters.specs.declared.judging.Plan.{Plan}
 use Rattle.filters.specs.Filters.{Buffers, AreLevels, foregroundOf, elementOf}
-use Rattle.filters.specs.Plans.{planRefusals, startRefusals, lengthsOf, firstRecord, firstLevels, IsFilterLevel, Bounded}
+use Rattle.filters.specs.Plans.{planRefusals, lengthsOf, firstRecord, firstLevels, IsFilterLevel, Bounded}
 use Rattle.filters.specs.Plans.{AllStored, LevelsAnswered}
 use Rattle.filters.specs.Back.{storedBy, Ready}
 use Rattle.filters.proofs.WayBack.{first-small, opened-below}
-use Rattle.filters.proofs.FirstRuns.{first-start, first-holds}
-use Rattle.filters.proofs.Refusing.{start-taken}
-use Rattle.filters.proofs.SheetAnswers.{Found, plan-starts, plan-ready, plan-room, plan-cleared}
+use Rattle.filters.proofs.FirstRuns.{Accepts, first-start, first-holds}
+use Rattle.filters.proofs.Refusing.{planOf, start-taken}
+use Rattle.filters.proofs.SheetAnswers.{IsFirstRun, plan-starts, plan-ready, plan-room, plan-cleared}
 use Rattle.filters.proofs.LevelRounds.{rising-levels, falling-levels}
 
 -- the levels of an opening's first run bound its sizes
 module _ (input : Input) (sheet bytes lent : List ℕ) (size : ℕ) (packed : Bool) where
   abbrev plan : Plan
-  plan = record { closing = false; size = size; packed = packed }
+  plan = planOf false size packed
 
   abbrev levels : List ℕ
   levels = firstLevels input sheet bytes plan
 
-  module _ (z : first (startRefusals input sheet bytes plan (length lent)) ≡ 0) where
+  module _ (z : Accepts input sheet bytes lent plan) where
     pub opening-small : (k : ℕ) → k < length levels → getD levels k 0 ≤ largestSize
     opening-small =
         let t = start-taken input sheet bytes plan (length lent) z in
@@ -51,16 +51,11 @@ module _ (input : Input) (sheet bytes lent : List ℕ) (size : ℕ) (packed : Bo
         (first-start input sheet bytes lent plan z .taken)
 
 module _ (input : Input) (sheet bytes : List ℕ) where
-  abbrev planOf : Bool → ℕ → Bool → Plan
-  planOf closing size packed = record { closing = closing; size = size; packed = packed }
-
-  abbrev Accepts : Plan → List ℕ → Type 0
-  Accepts plan lent = first (startRefusals input sheet bytes plan (length lent)) ≡ 0
-
-  first-bounded : (plan : Plan) (lent : List ℕ) → Accepts plan lent → Bounded plan (firstLevels input sheet bytes plan)
+  first-bounded : (plan : Plan) (lent : List ℕ) → Accepts input sheet bytes lent plan
+      → Bounded plan (firstLevels input sheet bytes plan)
   first-bounded plan lent z = go (plan .closing) z
     where
-      go : (t : Bool) → Accepts (planOf t (plan .size) (plan .packed)) lent
+      go : (t : Bool) → Accepts input sheet bytes lent (planOf t (plan .size) (plan .packed))
           → Bounded (planOf t (plan .size) (plan .packed))
           (firstLevels input sheet bytes (planOf t (plan .size) (plan .packed)))
       go true z = record {
@@ -73,14 +68,14 @@ module _ (input : Input) (sheet bytes : List ℕ) where
       }
 
   -- what stands after all sizes, the output as large as the frame
-  all-levels : (plan : Plan) (lent : List ℕ) → Accepts plan lent → {before after : List ℕ}
+  all-levels : (plan : Plan) (lent : List ℕ) → Accepts input sheet bytes lent plan → {before after : List ℕ}
       → length before ≡ input .height * input .width
       → AllStored plan (firstRecord input bytes plan) (firstLevels input sheet bytes plan) before after
       → AreLevels (input .width) (input .height)
       (IsFilterLevel (plan .closing) (plan .size) (foregroundOf input sheet) (elementOf input bytes)) after
   all-levels plan lent z {before} {after} e s = go (plan .closing) (plan .size) (plan .packed) z s
     where
-      go : (closing : Bool) (size : ℕ) (packed : Bool) → Accepts (planOf closing size packed) lent
+      go : (closing : Bool) (size : ℕ) (packed : Bool) → Accepts input sheet bytes lent (planOf closing size packed)
           → AllStored (planOf closing size packed) (firstRecord input bytes (planOf closing size packed))
           (firstLevels input sheet bytes (planOf closing size packed)) before after
           → AreLevels (input .width) (input .height)
@@ -106,7 +101,7 @@ module _ (input : Input) (sheet bytes : List ℕ) where
 -- levels asked for
 module _ (input : Input) (sheet bytes : List ℕ) (plan : Plan) (lent : Buffers)
     (z : first (planRefusals input sheet bytes plan (lengthsOf lent)) ≡ 0) (levels-asked : plan .packed ≡ false)
-    {run : Record} {levels : List ℕ} (p : Found input sheet bytes plan lent run levels) where
+    {run : Record} {levels : List ℕ} (p : IsFirstRun input sheet bytes plan lent run levels) where
   pub levels-ready : Ready run levels (lent .second) × (Bounded plan levels × (length (lent .out) ≡ run .height * run .width))
   levels-ready = (
     plan-ready input sheet bytes plan lent z p,

@@ -38,18 +38,18 @@ ignores input {lent} refusals {Right} alike carried one-thing one other e same =
     carry number after = answers-carried (alike one other e) (λ after h. (h .0, carried one other same (after .out) (h .1)))
 
 -- what is right of the same sets
-sheet-same : {width height : ℕ} {A B : PointSet} → A ≈ B → (out : List ℕ) → IsSheet width height A out
+sheet-carried : {width height : ℕ} {A B : PointSet} → A ≈ B → (out : List ℕ) → IsSheet width height A out
     → IsSheet width height B out
-sheet-same same out s = record {
+sheet-carried same out s = record {
   pixels = λ row col a b. let i = s .pixels row col a b in let p = at (pos row) (pos col) in
       ((λ e. same .0 p (i .0 e)), (λ h. i .1 (same .1 p h)));
   padding = s .padding;
 }
 
-levels-same : {width height : ℕ} {IsLevel IsOther : Point → ℕ → Type 0}
+levels-carried : {width height : ℕ} {IsLevel IsOther : Point → ℕ → Type 0}
     → ((p : Point) (level : ℕ) → IsLevel p level → IsOther p level) → (out : List ℕ)
     → AreLevels width height IsLevel out → AreLevels width height IsOther out
-levels-same {width} same out s = record {
+levels-carried {width} same out s = record {
   levels = λ row col a b. same (at (pos row) (pos col)) _ (s .levels row col a b);
   size = s .size;
 }
@@ -58,16 +58,16 @@ levels-same {width} same out s = record {
 pub padding-changes-nothing : (input : Input) (bytes : List ℕ) (lent : Buffers) → PaddingIgnored input bytes lent
 padding-changes-nothing input bytes lent = record {
   opens = λ size. ignores input (λ sheet. openRefusals input sheet bytes size lent) (λ one other e. rw e)
-      (λ one other same. sheet-same (opened-same (sets one other same) itself size))
+      (λ one other same. sheet-carried (opened-same (sets one other same) itself size))
       (λ sheet. sheet-one (input .width) (input .height) _);
   closes = λ size. ignores input (λ sheet. closeRefusals input sheet bytes size lent) (λ one other e. rw e)
-      (λ one other same. sheet-same (closed-same (sets one other same) itself size))
+      (λ one other same. sheet-carried (closed-same (sets one other same) itself size))
       (λ sheet. sheet-one (input .width) (input .height) _);
   opening-levels = ignores input (λ sheet. openingRefusals input sheet bytes lent) (λ one other e. rw e)
-      (λ one other same. levels-same (answer-same (sets one other same) itself openingLevels))
+      (λ one other same. levels-carried (answer-same (sets one other same) itself openingLevels))
       (λ sheet. levels-one (input .width) (input .height) _ (λ p m n. last-unique));
   closing-levels = λ cap. ignores input (λ sheet. closingRefusals input sheet bytes cap lent) (λ one other e. rw e)
-      (λ one other same. levels-same (answer-same (sets one other same) itself (closingLevels cap)))
+      (λ one other same. levels-carried (answer-same (sets one other same) itself (closingLevels cap)))
       (λ sheet. levels-one (input .width) (input .height) _ (λ p m n. first-unique));
 }
   where

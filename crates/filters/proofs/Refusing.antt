@@ -28,22 +28,27 @@ use Rattle.filters.specs.Filters.{Opens, Closes, OpeningLevels, ClosingL
 use Rattle.filters.specs.Plans.{limitOf, capOf, entriesOf, startRefusals, planRefusals, lengthsOf}
 use Rattle.filters.specs.Plans.{SheetAnswered, LevelsAnswered}
 
+-- a plan by its fields
+abbrev pub planOf : Bool → ℕ → Bool → Plan
+planOf closing size packed = record { closing = closing; size = size; packed = packed }
+
 -- entries to a row
-pub entries-sheet : (t : Bool) (width n : ℕ) → t ≡ true → n ≡ rowBytes width → width ≤ 4096
-    → (n ≡ entriesOf t width) × (n ≤ 4096)
+pub entries-sheet : (t : Bool) (width n : ℕ) → t ≡ true → n ≡ rowBytes width → width ≤ longestSide
+    → (n ≡ entriesOf t width) × (n ≤ longestSide)
 entries-sheet t width n e q l = (rw e q, omega arith)
 
-pub entries-levels : (t : Bool) (width : ℕ) → t ≡ false → width ≤ 4096 → (width ≡ entriesOf t width) × (width ≤ 4096)
+pub entries-levels : (t : Bool) (width : ℕ) → t ≡ false → width ≤ longestSide
+    → (width ≡ entriesOf t width) × (width ≤ longestSide)
 entries-levels t width e l = (rw e, l)
 
 module _ (input : Input) (sheet bytes : List ℕ) (plan : Plan) where
   -- a cap is small wherever 8 does not apply
-  pub cap-small : plan .size ≤ limitOf plan → capOf plan ≤ 2047
-  cap-small = go (plan .closing) (plan .size) (plan .packed)
+  pub cap-within : plan .size ≤ limitOf plan → capOf plan ≤ highestCap
+  cap-within = go (plan .closing) (plan .size) (plan .packed)
     where
       go : (closing : Bool) (size : ℕ) (packed : Bool)
-          → size ≤ limitOf (record { closing = closing; size = size; packed = packed })
-          → capOf (record { closing = closing; size = size; packed = packed }) ≤ 2047
+          → size ≤ limitOf (planOf closing size packed)
+          → capOf (planOf closing size packed) ≤ highestCap
       go true size packed l = omega arith
       go false size packed l = omega arith
 
@@ -164,7 +169,8 @@ one-entry : (a b : Bool) (n rest : ℕ) → cond a n (cond b n rest) ≡ cond (a
 one-entry true b n rest = refl
 one-entry false b n rest = refl
 
--- an answer by one list is an answer by another that gives the same number, where what is right by the one is right by the other
+-- an answer by one list is an answer by another that gives the same number, where what is right by the one is right by the
+-- other
 pub answers-carried : {A : Type 0} {xs ys : List Refusal} {kept : A} {Right Also : A → Type 0} {number : ℕ} {after : A}
     → first xs ≡ first ys → ((after : A) → Right after → Also after) → Answers xs kept Right number after
     → Answers ys kept Also number after
@@ -188,7 +194,7 @@ module _ (input : Input) (sheet bytes : List ℕ) (size : ℕ) (packed : Bool) (
   joined area = one-entry (not (eqb (length (lent .first)) area)) (not (eqb (length (lent .second)) area)) 10 _
 
   pub closing-list : first
-      (planRefusals input sheet bytes (record { closing = true; size = size; packed = packed }) (lengthsOf lent))
+      (planRefusals input sheet bytes (planOf true size packed) (lengthsOf lent))
       ≡ first (inputRefusals input sheet bytes ++
       (8, ltb highestCap size) ∷ (9, isCanvasWrong input size) ∷ work (closingSize input size))
   closing-list =
@@ -198,7 +204,7 @@ module _ (input : Input) (sheet bytes : List ℕ) (size : ℕ) (packed : Bool) (
       (λ _. ap (λ n. cond (ltb highestCap size) 8 (cond (isCanvasWrong input size) 9 n)) (joined (closingSize input size)))
 
   pub opening-list : first
-      (planRefusals input sheet bytes (record { closing = false; size = size; packed = packed }) (lengthsOf lent))
+      (planRefusals input sheet bytes (planOf false size packed) (lengthsOf lent))
       ≡ first (inputRefusals input sheet bytes ++ (8, ltb largestSize size) ∷ work (frameSize input))
   opening-list =
       first-alike (inputRefusals input sheet bytes)
@@ -215,21 +221,21 @@ module _ (input : Input) (sheet bytes : List ℕ) (size : ℕ) (packed : Bool) (
 -- THE FOUR CALLS: the answer to the plan is the call's
 module _ (input : Input) (sheet bytes : List ℕ) where
   pub open-answered : (size : ℕ) (lent : Buffers) {number : ℕ} {after : Buffers}
-      → SheetAnswered input sheet bytes (record { closing = false; size = size; packed = true }) lent number after
+      → SheetAnswered input sheet bytes (planOf false size true) lent number after
       → Opens input sheet bytes size lent number after
   open-answered size lent = answers-alike (opening-list input sheet bytes size true lent)
 
   pub close-answered : (size : ℕ) (lent : Buffers) {number : ℕ} {after : Buffers}
-      → SheetAnswered input sheet bytes (record { closing = true; size = size; packed = true }) lent number after
+      → SheetAnswered input sheet bytes (planOf true size true) lent number after
       → Closes input sheet bytes size lent number after
   close-answered size lent = answers-alike (closing-list input sheet bytes size true lent)
 
   pub opening-answered : (lent : Buffers) {number : ℕ} {after : Buffers}
-      → LevelsAnswered input sheet bytes (record { closing = false; size = 0; packed = false }) lent number after
+      → LevelsAnswered input sheet bytes (planOf false 0 false) lent number after
       → OpeningLevels input sheet bytes lent number after
   opening-answered lent = answers-alike (opening-list input sheet bytes 0 false lent)
 
   pub closing-answered : (cap : ℕ) (lent : Buffers) {number : ℕ} {after : Buffers}
-      → LevelsAnswered input sheet bytes (record { closing = true; size = cap; packed = false }) lent number after
+      → LevelsAnswered input sheet bytes (planOf true cap false) lent number after
       → ClosingLevels input sheet bytes cap lent number after
   closing-answered cap lent = answers-alike (closing-list input sheet bytes cap false lent)

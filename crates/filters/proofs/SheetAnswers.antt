@@ -52,8 +52,8 @@ module _ (input : Input) (sheet bytes : List ℕ) (plan : Plan) (lent : Buffers)
   abbrev Fits : Type 0
   Fits = first (planRefusals input sheet bytes plan (lengthsOf lent)) ≡ 0
 
-  abbrev pub Found : Record → List ℕ → Type 0
-  Found run levels = (run ≡ firstRecord input bytes plan) × (levels ≡ firstLevels input sheet bytes plan)
+  abbrev pub IsFirstRun : Record → List ℕ → Type 0
+  IsFirstRun run levels = (run ≡ firstRecord input bytes plan) × (levels ≡ firstLevels input sheet bytes plan)
 
   module _ (z : Fits) where
     plan-taken : Taken input sheet bytes plan (lengthsOf lent)
@@ -62,15 +62,15 @@ module _ (input : Input) (sheet bytes : List ℕ) (plan : Plan) (lent : Buffers)
     pub plan-starts : first (startRefusals input sheet bytes plan (length (lent .first))) ≡ 0
     plan-starts = plan-taken .start
 
-    pub plan-ready : {run : Record} {levels : List ℕ} → Found run levels → Ready run levels (lent .second)
+    pub plan-ready : {run : Record} {levels : List ℕ} → IsFirstRun run levels → Ready run levels (lent .second)
     plan-ready p = first-ready input sheet bytes (lent .first) plan plan-starts p (plan-taken .second-size)
 
     -- the output's length, as the run's record has it
-    pub plan-room : (packed : Bool) → plan .packed ≡ packed → {run : Record} {levels : List ℕ} → Found run levels
+    pub plan-room : (packed : Bool) → plan .packed ≡ packed → {run : Record} {levels : List ℕ} → IsFirstRun run levels
         → length (lent .out) ≡ run .height * entriesOf packed (run .width)
     plan-room packed e p = rw (p .0, ← e) (plan-taken .out-size)
 
-    pub plan-cleared : {run : Record} {levels : List ℕ} → Found run levels → {after : Buffers}
+    pub plan-cleared : {run : Record} {levels : List ℕ} → IsFirstRun run levels → {after : Buffers}
         → after .first ≡ replicate (length levels) 0 → after .second ≡ replicate (length (lent .second)) 0 → Cleared lent after
     plan-cleared p a b = record {
       first = a ∙ ap (λ n. replicate n 0) (ap length (p .1)
@@ -82,12 +82,12 @@ module _ (input : Input) (sheet bytes : List ℕ) (plan : Plan) (lent : Buffers)
     size-good = start-taken input sheet bytes plan (length (lent .first)) plan-starts .size-good
 
     -- a sheet asked for
-    module _ (sheets : plan .packed ≡ true) {run : Record} {levels : List ℕ} (p : Found run levels) where
+    module _ (sheets : plan .packed ≡ true) {run : Record} {levels : List ℕ} (p : IsFirstRun run levels) where
       pub sheet-ready : Ready run levels (lent .second) ×
-          ((plan .size ≤ 4096) × (length (lent .out) ≡ run .height * rowBytes (run .width)))
+          ((plan .size ≤ largestSize) × (length (lent .out) ≡ run .height * rowBytes (run .width)))
       sheet-ready = (plan-ready p, (small (plan .closing) size-good, plan-room true sheets p))
         where
-          small : (t : Bool) → plan .size ≤ cond t highestCap largestSize → plan .size ≤ 4096
+          small : (t : Bool) → plan .size ≤ cond t highestCap largestSize → plan .size ≤ largestSize
           small true l = omega arith
           small false l = l
 

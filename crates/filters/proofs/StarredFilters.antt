@@ -14,6 +14,7 @@ use lib.Dec.{eqb, ltb}
 use lib.IntN.{pos}
 use lib.ListN.{length, replicate}
 use Rattle.basics.specs.Bounds.{anyAbove}
+use Rattle.basics.specs.Limits.{largestSize, highestCap}
 use Rattle.basics.specs.Refusals.{Refusal, first, Answers}
 use Rattle.basics.specs.Tables.{table, raster}
 use Rattle.basics.proofs.RefusalLaws.{accepts, answers-unique}
@@ -61,10 +62,10 @@ module _ (c : Case) where
       (10, not (eqb first-size work) || not (eqb second-size work)) ∷ (11, not (eqb out-size (c .height * entries))) ∷ [])))
 
   openNumber : ℕ → ℕ → ℕ → ℕ → ℕ
-  openNumber n = numberOf ((8, ltb 4096 n) ∷ []) (c .height * c .width) (rowBytes (c .width))
+  openNumber n = numberOf ((8, ltb largestSize n) ∷ []) (c .height * c .width) (rowBytes (c .width))
 
   closingNumber : ℕ → ℕ → ℕ → ℕ → ℕ
-  closingNumber R = numberOf ((8, ltb 2047 R) ∷ (9, canvasWrong (c .width) (c .height) R 3) ∷ [])
+  closingNumber R = numberOf ((8, ltb highestCap R) ∷ (9, canvasWrong (c .width) (c .height) R 3) ∷ [])
       (canvasSize (c .width) (c .height) R 3) (c .width)
 
   openingNumber : ℕ → ℕ → ℕ → ℕ
@@ -73,22 +74,22 @@ module _ (c : Case) where
   Binary : Type 0
   Binary = (row : ℕ) → row < c .height → (col : ℕ) → col < c .width → drawn (c .sheet) row col ≤ 1
 
-  Taken : Question → Type 0
-  Taken openingLevels = openingNumber (c .height * c .width) (c .height * c .width) (length (levelsOf c)) ≡ 0
-  Taken (closingLevels R) =
+  NotRefused : Question → Type 0
+  NotRefused openingLevels = openingNumber (c .height * c .width) (c .height * c .width) (length (levelsOf c)) ≡ 0
+  NotRefused (closingLevels R) =
       closingNumber R (canvasSize (c .width) (c .height) R 3) (canvasSize (c .width) (c .height) R 3) (length (levelsOf c)) ≡ 0
-  Taken (openedBy n) = openNumber n (c .height * c .width) (c .height * c .width) (length (pictureOf c)) ≡ 0
-  Taken erosionLevels = Unit {0}
-  Taken (dilationLevels R) = Unit {0}
-  Taken (erodedBy n) = Unit {0}
+  NotRefused (openedBy n) = openNumber n (c .height * c .width) (c .height * c .width) (length (pictureOf c)) ≡ 0
+  NotRefused erosionLevels = Unit {0}
+  NotRefused (dilationLevels R) = Unit {0}
+  NotRefused (erodedBy n) = Unit {0}
 
   binary-dec : Dec Binary
   unfolding Binary
   binary-dec = all-below (c .height) (λ row. (col : ℕ) → col < c .width → drawn (c .sheet) row col ≤ 1)
       (λ row. all-below (c .width) (λ col. drawn (c .sheet) row col ≤ 1) (λ col. decLe (drawn (c .sheet) row col) 1))
 
-  taken-dec : (q : Question) → Dec (Taken q)
-  unfolding Taken
+  taken-dec : (q : Question) → Dec (NotRefused q)
+  unfolding NotRefused
   taken-dec openingLevels = ℕ-discrete _ 0
   taken-dec (closingLevels R) = ℕ-discrete _ 0
   taken-dec (openedBy n) = ℕ-discrete _ 0
@@ -98,7 +99,7 @@ module _ (c : Case) where
 
 AllTaken : List Case → Type 0
 AllTaken [] = Unit {0}
-AllTaken (c ∷ rest) = (Binary c × Taken c (c .question)) × AllTaken rest
+AllTaken (c ∷ rest) = (Binary c × NotRefused c (c .question)) × AllTaken rest
 
 all-taken-dec : (rest : List Case) → Dec (AllTaken rest)
 unfolding AllTaken
@@ -106,7 +107,7 @@ all-taken-dec [] = yes tt
 all-taken-dec (c ∷ rest) = both-dec (both-dec (binary-dec c) (taken-dec c (c .question))) (all-taken-dec rest)
 
 all-taken : AllTaken cases
-unfolding Yes all-taken-dec AllTaken Binary Taken binary-dec taken-dec openNumber closingNumber openingNumber
+unfolding Yes all-taken-dec AllTaken Binary NotRefused binary-dec taken-dec openNumber closingNumber openingNumber
     all-below both-dec ℕ-discrete decLe decLt table raster packed packedByte isSideOut isSide anyAbove countSet
 all-taken = by-test (all-taken-dec cases) tt
 
@@ -147,10 +148,10 @@ module _ (c : Case) (binary : Binary c) where
       is (inl p) = ((λ _. p .0), (λ _. p .1))
       is (inr p) = ((λ h. absurd (p .1 h)), (λ e. absurd (let z = p .0 in omega arith)))
 
-  given : (q : Question) → Taken c q
+  given : (q : Question) → NotRefused c q
       → ((row : ℕ) → row < c .height → (col : ℕ) → col < c .width
       → IsAnswer q (figureOf c) (shapeOf c) (at (pos row) (pos col)) (drawn (c .expected) row col)) → FilterGives q c
-  unfolding Taken openNumber closingNumber openingNumber
+  unfolding NotRefused openNumber closingNumber openingNumber
   given openingLevels t h =
       gives (openingRefusals (inputOf c) (sheetOf c) (bytesOf c)) (openingNumber c) (λ lent. refl)
       _ (levels-one (c .width) (c .height) _ (λ p m n. last-unique)) _ _ t (are-levels _ (same-answer openingLevels h))

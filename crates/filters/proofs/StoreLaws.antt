@@ -10,16 +10,15 @@ use lib.ListN.{length, getD, set}
 use Rattle.basics.specs.Limits.{largestSize}
 use Rattle.basics.specs.Tables.{raster}
 use Rattle.basics.proofs.TableLaws.{length-raster}
-use Rattle.row.specs.RowRule.{none}
 use Rattle.run.specs.declared.Record.{Record}
-use Rattle.run.specs.Records.{isErosion, margin, canvasSide, foreign}
+use Rattle.run.specs.Records.{margin, canvasSide}
 use Rattle.run.specs.Patches.{Patch, levelIn}
 use Rattle.run.specs.Pictures.{frameLevel, isHeldAt}
 use Rattle.run.proofs.PatchLaws.{patch-none, patch-turn, patch-all, patch-as, Rows, rows-turn}
+use Rattle.filters.specs.declared.back.HeldPart.{HeldPart}
 use Rattle.filters.specs.declared.judging.Plan.{Plan}
 use Rattle.filters.specs.Plans.{Bounded, Counted}
-use Rattle.filters.specs.Back.{back, wayBack, chosen, stored, sizeAt, storedBy, Highest, Ready}
-use Rattle.filters.proofs.BackLaws.{back-taken}
+use Rattle.filters.specs.Back.{back, wayBack, chosen, stored, sizeAt, storedBy, Highest, IsHeldPart, Ready}
 use Rattle.filters.proofs.BackSteps.{chosen-held}
 
 -- a loop that stores in a row
@@ -63,18 +62,17 @@ module _ (width margin : ℕ) (levels : List ℕ) (low high value : ℕ) where
       (let e : (row + margin) * canvasSide width margin + margin + i
       ≡ (row + margin) * canvasSide width margin + (i + margin) = omega arith in e))))
 
-pub stored-is : (r other : Record) → foreign r ≡ false → other ≡ back r → (n : ℕ) → n ≤ 4096 → (low high : ℕ)
-    → low ≡ cond (isErosion other) n 0 → high ≡ cond (isErosion other) none (n + 1)
-    → (second before : List ℕ) (m : ℕ) → m ≡ margin r → {out : List ℕ}
-    → out ≡ raster (r .width) (r .height) (storedLevel (r .width) m second low high (n + 1) before)
+pub stored-is : (r : Record) (n : ℕ) (second before : List ℕ) {part : HeldPart} → IsHeldPart r n part → {out : List ℕ}
+    → out ≡ raster (r .width) (r .height)
+    (storedLevel (r .width) (part .margin) second (part .low) (part .high) (n + 1) before)
     → out ≡ stored r second n before
 unfolding stored
-stored-is r other taken is n small low high p q second before m e h =
-    h ∙ ap (λ k. raster (r .width) (r .height) (storedLevel (r .width) k second low high (n + 1) before)) e
+stored-is r n second before {part} p h =
+    h ∙ ap (λ k. raster (r .width) (r .height) (storedLevel (r .width) k second (part .low) (part .high) (n + 1) before))
+    (p .margin-is)
     ∙ ap (λ f. raster (r .width) (r .height) f) (fun-ext (λ row. fun-ext (λ col.
-    chosen-held (back r) (back-taken r taken) n small low high (p ∙ ap (λ x. cond (isErosion x) n 0) is)
-    (q ∙ ap (λ x. cond (isErosion x) none (n + 1)) is) (n + 1) (getD before (row * r .width + col) 0)
-    (frameLevel r second row col))))
+    chosen-held (part .low) (part .high) (frameLevel r second row col) (isHeldAt (back r) n (frameLevel r second row col))
+    (p .held (frameLevel r second row col)) (n + 1) (getD before (row * r .width + col) 0))))
 
 pub stored-length : (r : Record) (second : List ℕ) (n : ℕ) (out : List ℕ)
     → length (stored r second n out) ≡ r .height * r .width
@@ -112,9 +110,10 @@ pub steps-end : {closing : Bool} {r : Record} {first out : List ℕ} {count k : 
 steps-end {closing} {r} {first} {out} {count} {k} P l = P .is
     ∙ ap (λ j. storedBy closing r first count j out) (let b = P .below in let e : k ≡ count = omega arith in e)
 
-pub size-small : (closing : Bool) {count k n : ℕ} → k < count → count ≤ 4096 → n ≡ sizeAt closing count k → n ≤ 4096
-size-small true l m e = omega arith
-size-small false l m e = omega arith
+pub step-small : (closing : Bool) {count k n : ℕ} → k < count → count ≤ largestSize → n ≡ sizeAt closing count k
+    → n ≤ largestSize
+step-small true l m e = omega arith
+step-small false l m e = omega arith
 
 -- the highest level
 pub highest-none : (levels : List ℕ) → Highest levels 0 0

@@ -1,6 +1,8 @@
--- After the way back from a finished erosion, or dilation, the frame's points that it holds at n are those of the set opened, or
+-- After the way back from a finished erosion, or dilation, the frame's points that it holds at n are those of the set opened,
+-- or
 -- closed, by n.
--- The first run's levels say, at every point of its area, whether the eroded or dilated set has the point; so the way back starts
+-- The first run's levels say, at every point of its area, whether the eroded or dilated set has the point; so the way back
+-- starts
 -- as the opening and the closing theorem ask.
 use Prim.Native.Nat.{ℕ, suc, _+_, _*_, _/_, _%_, _≤_, _<_}
 use native.Mathlib.Nat.{zero-mul}
@@ -13,6 +15,7 @@ use lib.Dec.{leb, ltb}
 use lib.IntN.{pos}
 use lib.ListN.{length, getD}
 use borrow.Author.Tests.{lt-ltb, ltb-true}
+use Rattle.basics.specs.Limits.{largestSize}
 use Rattle.basics.proofs.Arithmetic.{row-below, column-below, entry-of}
 use Rattle.grid.specs.Points.{Point, at, neg}
 use Rattle.grid.specs.Sets.{PointSet, eroded, dilated, opened, closed}
@@ -81,7 +84,7 @@ module _ (width height : ℕ) (sheet : List ℕ) (side : ℕ) (bytes : List ℕ)
         (erosion-scan (erosion-start width height sheet side bytes given (sound r e)) x) n in
         ((λ h. lt-ltb n l (i .0 h)), (λ t. i .1 (ltb-true n l t)))
 
-    opening-start : (n : ℕ) → n ≤ 4096 → OpeningStart (areaOf (back r)) A K n (backStart r first n)
+    opening-start : (n : ℕ) → n ≤ largestSize → OpeningStart (areaOf (back r)) A K n (backStart r first n)
     opening-start n l =
         let p = partners-dilation (back r) (sound (back r) (back-taken r e)) refl in
         let k = same-set side bytes given in
@@ -98,7 +101,7 @@ module _ (width height : ℕ) (sheet : List ℕ) (side : ℕ) (bytes : List ℕ)
           off = marks-off r first n (eroded A K n) first-size (eroded-held n);
         }
 
-    pub opening-back : HoldsBack r first 4096 (opened A K)
+    pub opening-back : HoldsBack r first largestSize (opened A K)
     opening-back n l row col a b =
         let m : margin r ≡ 0 = zero-mul (reach side) in
         let i = opening-at (opening-start n l) (row + margin r) (col + margin r) (omega arith) (omega arith) in
@@ -122,7 +125,7 @@ module _ (width height : ℕ) (sheet : List ℕ) (side : ℕ) (bytes : List ℕ)
               (column-below w (areaHeight r) k s) ∙ ap (λ j. getD first j 0) (entry-of w k),
         )
 
-    pub first-small : (k : ℕ) → k < length first → getD first k 0 ≤ 4096
+    pub first-small : (k : ℕ) → k < length first → getD first k 0 ≤ largestSize
     first-small k l =
         let (x, q) = look-at k l in
         let s = sound r e in
@@ -179,7 +182,8 @@ module _ (width height : ℕ) (sheet : List ℕ) (side : ℕ) (bytes : List ℕ)
     on-canvas n l x h = go (frame-decided (areaWidth r₂) (areaHeight r₂) x)
       where
         go : Dec (frame (areaWidth r₂) (areaHeight r₂) x) → frame (areaWidth (back r₂)) (areaHeight (back r₂)) x
-        go (yes (row, col, a, b, q)) = let w = back-width r₂ in let v = back-height r₂ in (row, col, omega arith, omega arith, q)
+        go (yes (row, col, a, b, q)) = let w = back-width r₂ in let v = back-height r₂ in
+            (row, col, omega arith, omega arith, q)
         go (no out) =
             let v = in-range n l x .0 h .1 in
             let o = look-beyond (areaOf r₂) first₂ x out in

@@ -11,10 +11,11 @@ use Rattle.basics.specs.Tables.{table, raster}
 use Rattle.sheet.specs.Sheets.{packed}
 use Rattle.row.specs.RowRule.{none}
 use Rattle.run.specs.declared.Record.{Record}
-use Rattle.run.specs.Records.{isErosion, areaWidth, areaHeight, foreign}
+use Rattle.run.specs.Records.{isErosion, margin, areaWidth, areaHeight, foreign}
 use Rattle.run.specs.Patches.{heldBetween}
 use Rattle.run.specs.Pictures.{frameLevel, isHeldAt}
 use Rattle.run.specs.Demand2.{finished}
+use Rattle.filters.specs.declared.back.HeldPart.{HeldPart}
 
 -- the run of the other kind; its frame is the whole area, so it has no margin of its own
 abbrev pub back : Record → Record
@@ -73,6 +74,11 @@ pub record Ready (r : Record) (first second : List ℕ) : Type 0 where
   pub taken : foreign r ≡ false
   pub first-size : length first ≡ areaHeight r * areaWidth r
   pub second-size : length second ≡ areaHeight r * areaWidth r
+
+-- the frame lies within the margin, and the levels between two bounds are those that are held after the way back
+pub record IsHeldPart (r : Record) (n : ℕ) (part : HeldPart) : Type 0 where
+  pub margin-is : part .margin ≡ margin r
+  pub held : (level : ℕ) → heldBetween (part .low) (part .high) level ≡ cond (isHeldAt (back r) n level) 1 0
 
 -- on where a level is above low and at most high, else off
 abbrev pub chosen : ℕ → ℕ → ℕ → ℕ → ℕ → ℕ

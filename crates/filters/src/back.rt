@@ -10,7 +10,7 @@ ghost use Rattle.basics.specs.Tables.{table};
 ghost use Rattle.sheet.specs.Sheets.{rowBytes};
 ghost use Rattle.run.specs.Records.{areaWidth, areaHeight, foreign};
 ghost use Rattle.run.specs.Demand2.{finished};
-ghost use Rattle.filters.specs.Back.{back, chosen, wayBack, keptSheet, Ready};
+ghost use Rattle.filters.specs.Back.{back, chosen, backStart, wayBack, keptSheet, IsHeldPart, Ready};
 
 // All rows of a run that has none done.
 pub fn finish(run: Record, levels: &mut [u16])
@@ -70,18 +70,44 @@ fn mark(first: &[u16], low: u16, high: u16, on: u16, off: u16, second: &mut [u16
     }
 }
 
+// Marks the second levels as the way back starts: with the points that the first run holds at a size.
+fn mark_held(run: Record, size: usize, first: &[u16], second: &mut [u16])
+    requires { ⌜ Ready run (now first) (now second) × (size ≤ largestSize) ⌝ }
+    ensures { λ _. ⌜ now (second .exit) ≡ backStart run (now (first .entry)) size ⌝ }
+{
+    let kind = other_kind(run.kind);
+    let low = run::kinds::below_held(run, size);
+    let high = run::kinds::highest_held(run, size);
+    let on = run::starting::where_one(kind, row::NONE, 1);
+    let off = run::starting::where_one(kind, 0, row::NONE);
+    mark(first, low, high, on, off, second);
+}
+
 // The way back from a finished run, at a size.
 pub fn way_back(run: Record, size: usize, first: &[u16], second: &mut [u16])
     requires { ⌜ Ready run (now first) (now second) × (size ≤ largestSize) ⌝ }
     ensures { λ _. ⌜ now (second .exit) ≡ wayBack run (now (first .entry)) size ⌝ }
 {
+    mark_held(run, size, first, second);
+    finish(back_run(run), second);
+}
+
+// Where the frame lies in the levels after the way back, and between which bounds a level is held there.
+pub struct HeldPart {
+    pub margin: usize,
+    pub low: u16,
+    pub high: u16,
+}
+
+pub fn held_part(run: Record, size: usize) -> HeldPart
+    requires { ⌜ (foreign run ≡ false) × (size ≤ largestSize) ⌝ }
+    ensures { λ r. ⌜ IsHeldPart run size r ⌝ }
+{
     let other = back_run(run);
-    let low = run::kinds::below_held(run, size);
-    let high = run::kinds::highest_held(run, size);
-    let on = run::starting::where_one(other.kind, row::NONE, 1);
-    let off = run::starting::where_one(other.kind, 0, row::NONE);
-    mark(first, low, high, on, off, second);
-    finish(other, second);
+    let margin = run::records::margin_of(run.cap, run.side);
+    let low = run::kinds::below_held(other, size);
+    let high = run::kinds::highest_held(other, size);
+    HeldPart { margin, low, high }
 }
 
 // The packed sheet of the frame's points that are held after the way back.
@@ -90,11 +116,16 @@ fn pack_back(run: Record, size: usize, second: &[u16], out: &mut [u8])
         (length (now out) ≡ run .height * rowBytes (run .width)))) ⌝ }
     ensures { λ _. ⌜ now (out .exit) ≡ keptSheet run (now (second .entry)) size ⌝ }
 {
-    let other = back_run(run);
-    let margin = run::records::margin_of(run.cap, run.side);
-    let low = run::kinds::below_held(other, size);
-    let high = run::kinds::highest_held(other, size);
-    run::pictures::pack_frame(second, run.width, run.height, margin, low, high, out);
+    let part = held_part(run, size);
+    run::pictures::pack_frame(
+        second,
+        run.width,
+        run.height,
+        part.margin,
+        part.low,
+        part.high,
+        out,
+    );
 }
 
 // All levels become 0.

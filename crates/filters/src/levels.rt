@@ -76,12 +76,18 @@ fn store_held(run: Record, size: usize, second: &[u16], out: &mut [u16])
         (length (now out) ≡ run .height * run .width))) ⌝ }
     ensures { λ _. ⌜ now (out .exit) ≡ stored run (now (second .entry)) size (now (out .entry)) ⌝ }
 {
-    let other = back::back_run(run);
-    let margin = run::records::margin_of(run.cap, run.side);
-    let low = run::kinds::below_held(other, size);
-    let high = run::kinds::highest_held(other, size);
+    let part = back::held_part(run, size);
     let value = size as u16 + 1;
-    store_rows(second, run.width, run.height, margin, low, high, value, out);
+    store_rows(
+        second,
+        run.width,
+        run.height,
+        part.margin,
+        part.low,
+        part.high,
+        value,
+        out,
+    );
 }
 
 // One size: the way back, and what it holds.

@@ -1,5 +1,5 @@
 -- The loop's invariant: the first k sizes are gone through.
-use Rattle.filters.proofs.StoreLaws.{Steps, steps-start, steps-turn, steps-end, size-small}
+use Rattle.filters.proofs.StoreLaws.{Steps, steps-start, steps-turn, steps-end, step-small}
 use borrow.Author.Needs.{needs}
 use native.Mathlib.Omega.{arith}
 use Prim.Native.Nat.{_-_}
@@ -21,7 +21,7 @@ one-size-requires c κs =
     let turn = c .before .before .before in
     let steps = turn .before .loop .inv in
     let small = turn .before .before .before .before .before .pre .1 .0 in
-    let size = size-small (turn .before .before .before .before .before .args .closing) (turn .loop-test .taken) small
+    let size = step-small (turn .before .before .before .before .before .args .closing) (turn .loop-test .taken) small
     (c .before .before .size-at .ensures) in
     (steps .given, (size, steps .room))
 

@@ -23,7 +23,8 @@ mul-store-row c = let s = frame-room (c .before .before .before .before .pre .0)
     omega arith
 
 add-store-row-2 : tie.Need-add-store-row-2 Inv-loop μ-loop
-add-store-row-2 c = let s = frame-room (c .before .before .before .before .pre .0) (c .before .loop .row) (c .loop-test .taken) in
+add-store-row-2 c = let s =
+    frame-room (c .before .before .before .before .pre .0) (c .before .loop .row) (c .loop-test .taken) in
     omega arith
 
 mul-store-row-2 : tie.Need-mul-store-row-2 Inv-loop μ-loop
