@@ -1,10 +1,8 @@
 // The lines that are printed.
 use libc::STDOUT_FILENO;
 
-// A call, its case, and the number that it answered.
-pub fn say(call: &[u8], case: &[u8], number: u32) {
-    io::write_all(STDOUT_FILENO, call);
-    io::write_all(STDOUT_FILENO, b", ");
+// A call and its case, and the number that it answered.
+pub fn say(case: &[u8], number: u32) {
     io::write_all(STDOUT_FILENO, case);
     io::write_all(STDOUT_FILENO, b": ");
     io::print_decimal(STDOUT_FILENO, number as u64);
@@ -29,5 +27,5 @@ pub fn say_text(room: &[u8], size: usize) {
     if room.len() < size {
         return;
     }
-    io::write_all(STDOUT_FILENO, &room[..size]);
+    io::write_all(STDOUT_FILENO, &room[0..size]);
 }

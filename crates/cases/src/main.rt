@@ -1,30 +1,19 @@
-// Document 01's cases 9 and 10, and a case for each refusal of each public call: for each a line with the call, the case and the
-// number answered, 0 where it is accepted.
-mod elements;
-mod files;
-mod filtering;
+// Document 01's cases 9 and 10, and a case for each refusal of each public call. The list of cases is read on standard input
+// (the file `stdin`), so a new case is a line there and nothing to prove here; for each the program prints the call, the case and
+// the number answered, 0 where it is accepted.
+use libc::STDIN_FILENO;
+
+mod asking;
+mod calls;
 mod lines;
+mod lists;
 mod padding;
-mod runs;
-mod starts;
+mod records;
+mod rooms;
 
 fn main() {
-    starts::sides();
-    starts::canvases();
-    runs::allowances();
-    padding::bytes_to_a_row();
+    let mut input = io::large_buffer();
+    let length = io::read_full(STDIN_FILENO, &mut input);
+    lists::answer_all(&input[..length]);
     padding::same_answers();
-    starts::erosions();
-    starts::dilations();
-    runs::continues();
-    runs::collects();
-    runs::thresholds();
-    filtering::opens();
-    filtering::closes();
-    filtering::opening_transforms();
-    filtering::closing_transforms();
-    elements::reflects();
-    files::reads();
-    files::writes();
-    files::pictures();
 }

@@ -13,7 +13,7 @@ use lib.ListN.{length, set}
 use borrow.Author.Tests.{eq-eqb, ne-eqb, eqb-false, leb-true, ltb-true, le-ltb}
 use Rattle.basics.specs.Refusals.{Refusal, first, Answers}
 use Rattle.basics.proofs.RefusalLaws.{numbered, first-refused, first-accepted, refuses, accepts}
-use Rattle.harness.specs.Boundary.{answerRefusal, atLatest}
+use Rattle.harness.specs.Boundary.{holdsNoRecord, wordsRefusal, answerRefusal, atLatest}
 
 -- a library's answer carried over to a list of refusals that gives the same number
 module _ {A B : Type 0} {L M : List Refusal} {keptA : A} {keptB : B} {RightA : A → Type 0} {RightB : B → Type 0} {n : ℕ} {x : A}
@@ -24,9 +24,14 @@ module _ {A B : Type 0} {L M : List Refusal} {keptA : A} {keptB : B} {RightA : A
   pub carried-answer : n ≡ 0 → (y : B) → (RightA x → RightB y) → Answers M keptB RightB 0 y
   carried-answer z y k = accepts y (e ∙ sym (p .refusal) ∙ z) (k (p .accepted z))
 
-pub carried : {A : Type 0} {L M : List Refusal} {kept : A} {Right : A → Type 0} {n : ℕ} {x : A} → Answers L kept Right n x
-    → first M ≡ first L → Answers M kept Right n x
-carried p e = record { refusal = p .refusal ∙ sym e; accepted = p .accepted; refused = p .refused }
+-- words that should be a record: 1 where they hold none, else what the library answers of the record
+module _ {A : Type 0} {L : List Refusal} {kept : A} {Right : A → Type 0} (words : List ℕ) where
+  pub no-record : holdsNoRecord words ≡ true → Answers (wordsRefusal words ∷ L) kept Right 1 kept
+  no-record h = refuses 1 (λ q. absurd (omega arith)) (rw h)
+
+  pub record-answers : holdsNoRecord words ≡ false → {n : ℕ} {x : A} → Answers L kept Right n x
+      → Answers (wordsRefusal words ∷ L) kept Right n x
+  record-answers h p = record { refusal = p .refusal ∙ rw h; accepted = p .accepted; refused = p .refused }
 
 -- an answer slice after all other refusals
 module _ (L : List Refusal) (t : T (numbered L)) (size : ℕ) (answer : List ℕ) where

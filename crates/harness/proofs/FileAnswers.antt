@@ -96,9 +96,6 @@ module _ (file out frame : List ℕ) where
 
 -- WRITING PGM
 module _ (words levels out answer : List ℕ) where
-  pub picture-words : holdsNoRecord words ≡ true → WritesPicture words levels out answer 1 (out, answer)
-  picture-words h = refuses 1 (λ q. absurd (omega arith)) (rw h)
-
   module _ (h : holdsNoRecord words ≡ false) (run : Record) (q : run ≡ recordOf words) where
     pub picture-other : length answer ≢ 1 → {number n : ℕ} → number ≡ atLatest n → n ≡ first (pgmRefusals run levels out)
         → WritesPicture words levels out answer number (out, answer)

@@ -9,47 +9,46 @@ use lib.Dec.{T, ltb}
 use lib.ListN.{length, set}
 use borrow.Author.Tests.{eq-eqb, ne-eqb}
 use Rattle.basics.specs.Refusals.{Refusal, first, Answers}
-use Rattle.basics.proofs.RefusalLaws.{numbered, refuses}
+use Rattle.basics.proofs.RefusalLaws.{numbered}
 use Rattle.run.specs.declared.Record.{Record}
 use Rattle.run.specs.Records.{recordBad, noRecord}
 use Rattle.run.specs.Continuing.{levelsWrong, continueRefusals, Continues}
-use Rattle.run.specs.Pictures.{Collects, Thresholds}
-use Rattle.harness.specs.Boundary.{wordsOf, recordOf, holdsNoRecord, wordsRefusal, answerRefusal, atEleven, atLatest}
-use Rattle.harness.specs.Runs.{flag, continueWords, ContinuesWords, CollectsWords, ThresholdsWords}
-use Rattle.harness.proofs.AnswerLaws.{upToEleven, latest-refuses, carried, carried-refusal, carried-answer, answer-fits}
+use Rattle.harness.specs.Boundary.{recordWords, wordsOf, recordOf, holdsNoRecord, wordsRefusal, answerRefusal}
+use Rattle.harness.specs.Boundary.{atEleven, atLatest}
+use Rattle.harness.specs.Runs.{startedWords, flag, continueWords, ContinuesWords}
+use Rattle.harness.proofs.AnswerLaws.{upToEleven, latest-refuses, carried-refusal, carried-answer, answer-fits}
 use Rattle.harness.proofs.AnswerLaws.{one-stored}
 
 -- STARTING: the record goes into the words
 module _ (refusals : List Refusal) (t : T (numbered refusals)) (levels words : List ℕ)
-    (a : length words ≡ 55) {begun : Record} {started : List ℕ} (n : ℕ) (run : Record) (after : List ℕ)
+    (a : length words ≡ recordWords) {begun : Record} {started : List ℕ} (n : ℕ) (run : Record) (after : List ℕ)
     (p : Answers {A = Record × List ℕ} refusals (noRecord, levels) (λ x. x ≡ (begun, started)) n (run, after)) where
   abbrev StartsWords : ℕ → List ℕ × List ℕ → Type 0
-  StartsWords = Answers (refusals ++ answerRefusal 55 words ∷ []) (levels, words) (λ x. x ≡ (started, wordsOf begun))
+  StartsWords = Answers (refusals ++ answerRefusal recordWords words ∷ []) (levels, words) (λ x. x ≡ (started, wordsOf begun))
 
-  pub start-refuses : n ≢ 0 → StartsWords n (after, words)
-  start-refuses z = carried-refusal p (answer-fits refusals t 55 words a) z (after, words) (λ q. ap (λ x. (x .1, words)) q)
-
-  pub start-accepts : n ≡ 0 → (next : List ℕ) → next ≡ wordsOf run → StartsWords 0 (after, next)
-  start-accepts z next e =
-      carried-answer p (answer-fits refusals t 55 words a) z (after, next) (λ q. rw e (ap (λ x. (x .1, wordsOf (x .0))) q))
+  pub start-answers : (next : List ℕ) → next ≡ startedWords n run words → StartsWords n (after, next)
+  start-answers next e = record {
+    refusal = p .refusal ∙ sym (answer-fits refusals t recordWords words a);
+    accepted = λ z. rw (e, eq-eqb n 0 z) (ap (λ x. (x .1, wordsOf (x .0))) (p .accepted z));
+    refused = λ z. rw (e, ne-eqb n 0 z) (ap (λ x. (x .1, words)) (p .refused z));
+  }
 
 -- and where the words are of another length
 pub start-other : (refusals : List Refusal) → T (numbered refusals) → T (upToEleven refusals)
-    → (levels words : List ℕ) {begun : Record} {started : List ℕ} → length words ≢ 55 → {number n : ℕ} → number ≡ atLatest n
+    → (levels words : List ℕ) {begun : Record} {started : List ℕ} → length words ≢ recordWords → {number n : ℕ}
+    → number ≡ atLatest n
     → n ≡ first refusals
-    → Answers {A = List ℕ × List ℕ} (refusals ++ answerRefusal 55 words ∷ []) (
+    → Answers {A = List ℕ × List ℕ} (refusals ++ answerRefusal recordWords words ∷ []) (
       levels,
       words,
     ) (λ x. x ≡ (started, wordsOf begun)) number (levels, words)
 start-other refusals t u levels words a e f =
-    latest-refuses refusals [] t u tt (refusals ++ answerRefusal 55 words ∷ []) (rw (ne-eqb (length words) 55 a)) e
+    latest-refuses refusals [] t u tt (refusals ++ answerRefusal recordWords words ∷ [])
+    (rw (ne-eqb (length words) recordWords a)) e
     (f ∙ ap first (sym (append-nil refusals)))
 
 -- CONTINUING
 module _ (words levels : List ℕ) (allowance : ℕ) (done : List ℕ) where
-  pub continue-words : holdsNoRecord words ≡ true → ContinuesWords words levels allowance done 1 (words, levels, done)
-  continue-words h = refuses 1 (λ q. absurd (omega arith)) (rw h)
-
   module _ (h : holdsNoRecord words ≡ false) (run : Record) (q : run ≡ recordOf words) where
     pub continue-other : length done ≢ 1 → {number n : ℕ} → number ≡ atLatest n
         → n ≡ first (continueRefusals run levels allowance)
@@ -78,20 +77,3 @@ module _ (words levels : List ℕ) (allowance : ℕ) (done : List ℕ) where
             after,
             set done 0 v,
           ) (λ e. rw (w, one-stored done v a, f) (ap continueWords e))
-
--- COLLECTING AND THRESHOLDING
-module _ (words levels out : List ℕ) where
-  pub collect-words : holdsNoRecord words ≡ true → CollectsWords words levels out 1 out
-  collect-words h = refuses 1 (λ q. absurd (omega arith)) (rw h)
-
-  pub collect-answers : holdsNoRecord words ≡ false → (run : Record) → run ≡ recordOf words → (n : ℕ) (after : List ℕ)
-      → Collects run levels out n after → CollectsWords words levels out n after
-  collect-answers h run q n after p = carried (rw q at p) (rw h)
-
-module _ (words levels : List ℕ) (size : ℕ) (out : List ℕ) where
-  pub threshold-words : holdsNoRecord words ≡ true → ThresholdsWords words levels size out 1 out
-  threshold-words h = refuses 1 (λ q. absurd (omega arith)) (rw h)
-
-  pub threshold-answers : holdsNoRecord words ≡ false → (run : Record) → run ≡ recordOf words → (n : ℕ) (after : List ℕ)
-      → Thresholds run levels size out n after → ThresholdsWords words levels size out n after
-  threshold-answers h run q n after p = carried (rw q at p) (rw h)

@@ -1,5 +1,5 @@
--- What crosses the boundary to C: a record as 55 words, and the slices that take the answers beside a call's number.
-use Prim.Native.Nat.{ℕ}
+-- What crosses the boundary to C: a record as words, and the slices that take the answers beside a call's number.
+use Prim.Native.Nat.{ℕ, _+_}
 use mathlib.Core.Bool.{Bool, not, cond, _||_}
 use mathlib.Core.List.{List, [], _∷_}
 use lib.Dec.{eqb, ltb}
@@ -8,7 +8,20 @@ use Rattle.basics.specs.Bounds.{anyAbove}
 use Rattle.basics.specs.Refusals.{Refusal}
 use Rattle.run.specs.declared.Record.{Record}
 
--- kind, width, height, cap, side, rows done, then the 49 cells
+-- six numbers, and then the cells
+abbrev pub recordNumbers : ℕ
+recordNumbers = 6
+
+abbrev pub recordCells : ℕ
+recordCells = 49
+
+abbrev pub recordWords : ℕ
+recordWords = recordNumbers + recordCells
+
+abbrev pub highestByte : ℕ
+highestByte = 255
+
+-- kind, width, height, cap, side, rows done, then the cells
 abbrev pub wordsOf : Record → List ℕ
 wordsOf r = r .kind ∷ r .width ∷ r .height ∷ r .cap ∷ r .side ∷ r .rows ∷ r .cells
 
@@ -21,12 +34,13 @@ recordOf words =
       cap = getD words 3 0;
       side = getD words 4 0;
       rows = getD words 5 0;
-      cells = drop 6 words;
+      cells = drop recordNumbers words;
     }
 
--- words that no record holds: not 55, or a kind or a cell that is more than a byte
+-- words that no record holds: of another count, or a kind or a cell that is more than a byte
 unfoldable pub holdsNoRecord : List ℕ → Bool
-holdsNoRecord words = not (eqb (length words) 55) || ltb 255 (getD words 0 0) || anyAbove 255 (drop 6 words)
+holdsNoRecord words =
+    not (eqb (length words) recordWords) || ltb highestByte (getD words 0 0) || anyAbove highestByte (drop recordNumbers words)
 
 -- refusal 1 of words that should be a record, before all that a library call judges of the record
 abbrev pub wordsRefusal : List ℕ → Refusal

@@ -4,6 +4,7 @@ use Prim.Native.Nat.{ℕ}
 use mathlib.Core.Path.{_≡_}
 use mathlib.Core.Bool.{Bool, cond}
 use mathlib.Core.List.{List, [], _∷_, _++_}
+use lib.Dec.{eqb}
 use Rattle.basics.specs.Refusals.{Answers}
 use Rattle.row.specs.RowRule.{none}
 use Rattle.run.specs.declared.Record.{Record}
@@ -11,21 +12,25 @@ use Rattle.run.specs.Records.{marginOf}
 use Rattle.run.specs.Starting.{startRecord, startLevels, erosionRefusals, dilationRefusals}
 use Rattle.run.specs.Continuing.{continueRefusals, continued}
 use Rattle.run.specs.Pictures.{collected, collectRefusals, thresholded, thresholdRefusals}
-use Rattle.harness.specs.Boundary.{wordsOf, recordOf, wordsRefusal, answerRefusal, atEleven}
+use Rattle.harness.specs.Boundary.{recordWords, wordsOf, recordOf, wordsRefusal, answerRefusal, atEleven}
 
 -- starting: the levels, and the record
 abbrev pub StartsErosionWords : ℕ → ℕ → List ℕ → ℕ → List ℕ → List ℕ → List ℕ → ℕ → List ℕ × List ℕ → Type 0
 StartsErosionWords width height sheet side cells levels words =
-    Answers (erosionRefusals width height sheet side cells levels ++ answerRefusal 55 words ∷ []) (levels, words)
+    Answers (erosionRefusals width height sheet side cells levels ++ answerRefusal recordWords words ∷ []) (levels, words)
     (λ after. after ≡ (startLevels width height 0 sheet none 0, wordsOf (startRecord 1 width height 0 side cells)))
 
 abbrev pub StartsDilationWords : ℕ → ℕ → List ℕ → ℕ → List ℕ → ℕ → List ℕ → List ℕ → ℕ → List ℕ × List ℕ → Type 0
 StartsDilationWords width height sheet side cells cap levels words =
-    Answers (dilationRefusals width height sheet side cells cap levels ++ answerRefusal 55 words ∷ []) (levels, words)
+    Answers (dilationRefusals width height sheet side cells cap levels ++ answerRefusal recordWords words ∷ []) (levels, words)
     (λ after. after ≡ (
       startLevels width height (marginOf cap side) sheet 1 none,
       wordsOf (startRecord 2 width height cap side cells),
     ))
+
+-- the words after a start that gave a number and a record: the record where it was accepted, else as they were
+abbrev pub startedWords : ℕ → Record → List ℕ → List ℕ
+startedWords number run words = cond (eqb number 0) (wordsOf run) words
 
 -- continuing: the record, the levels, and whether all rows are done, as 1 or 0
 abbrev pub flag : Bool → ℕ

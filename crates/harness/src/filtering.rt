@@ -1,4 +1,5 @@
 // Opening, closing and their transforms: the library's own contracts, at the boundary's numbers.
+use filters::Input;
 ghost use Rattle.filters.specs.Filters.{Opens, Closes, OpeningLevels, ClosingLevels};
 
 // Public: the sheet opened by a size, into `out`. Refusals 2 to 8, 10, 11.
@@ -14,21 +15,16 @@ pub extern "C" fn wt_open(
     second: &mut [u16],
     out: &mut [u8],
 ) -> u32
-    ensures { λ r. ⌜ Opens width height (now (sheet .entry)) side (now (cells .entry)) size
+    ensures { λ r. ⌜ Opens (record { width = width; height = height; side = side }) (now (sheet .entry)) (now (cells .entry)) size
         (record { first = now (first .entry); second = now (second .entry); out = now (out .entry) }) r
         (record { first = now (first .exit); second = now (second .exit); out = now (out .exit) }) ⌝ }
 {
-    filters::open(
-        width as usize,
-        height as usize,
-        sheet,
-        side as usize,
-        cells,
-        size as usize,
-        first,
-        second,
-        out,
-    )
+    let input = Input {
+        width: width as usize,
+        height: height as usize,
+        side: side as usize,
+    };
+    filters::open(input, sheet, cells, size as usize, first, second, out)
 }
 
 // Public: the sheet closed by a size, into `out`. Refusals 2 to 11.
@@ -44,21 +40,16 @@ pub extern "C" fn wt_close(
     second: &mut [u16],
     out: &mut [u8],
 ) -> u32
-    ensures { λ r. ⌜ Closes width height (now (sheet .entry)) side (now (cells .entry)) size
+    ensures { λ r. ⌜ Closes (record { width = width; height = height; side = side }) (now (sheet .entry)) (now (cells .entry)) size
         (record { first = now (first .entry); second = now (second .entry); out = now (out .entry) }) r
         (record { first = now (first .exit); second = now (second .exit); out = now (out .exit) }) ⌝ }
 {
-    filters::close(
-        width as usize,
-        height as usize,
-        sheet,
-        side as usize,
-        cells,
-        size as usize,
-        first,
-        second,
-        out,
-    )
+    let input = Input {
+        width: width as usize,
+        height: height as usize,
+        side: side as usize,
+    };
+    filters::close(input, sheet, cells, size as usize, first, second, out)
 }
 
 // Public: the opening levels, into `out`. Refusals 2 to 7, 10, 11.
@@ -73,20 +64,16 @@ pub extern "C" fn wt_opening_levels(
     second: &mut [u16],
     out: &mut [u16],
 ) -> u32
-    ensures { λ r. ⌜ OpeningLevels width height (now (sheet .entry)) side (now (cells .entry))
+    ensures { λ r. ⌜ OpeningLevels (record { width = width; height = height; side = side }) (now (sheet .entry)) (now (cells .entry))
         (record { first = now (first .entry); second = now (second .entry); out = now (out .entry) }) r
         (record { first = now (first .exit); second = now (second .exit); out = now (out .exit) }) ⌝ }
 {
-    filters::opening_levels(
-        width as usize,
-        height as usize,
-        sheet,
-        side as usize,
-        cells,
-        first,
-        second,
-        out,
-    )
+    let input = Input {
+        width: width as usize,
+        height: height as usize,
+        side: side as usize,
+    };
+    filters::opening_levels(input, sheet, cells, first, second, out)
 }
 
 // Public: the closing levels up to a cap, into `out`. Refusals 2 to 11.
@@ -102,19 +89,14 @@ pub extern "C" fn wt_closing_levels(
     second: &mut [u16],
     out: &mut [u16],
 ) -> u32
-    ensures { λ r. ⌜ ClosingLevels width height (now (sheet .entry)) side (now (cells .entry)) cap
+    ensures { λ r. ⌜ ClosingLevels (record { width = width; height = height; side = side }) (now (sheet .entry)) (now (cells .entry)) cap
         (record { first = now (first .entry); second = now (second .entry); out = now (out .entry) }) r
         (record { first = now (first .exit); second = now (second .exit); out = now (out .exit) }) ⌝ }
 {
-    filters::closing_levels(
-        width as usize,
-        height as usize,
-        sheet,
-        side as usize,
-        cells,
-        cap as usize,
-        first,
-        second,
-        out,
-    )
+    let input = Input {
+        width: width as usize,
+        height: height as usize,
+        side: side as usize,
+    };
+    filters::closing_levels(input, sheet, cells, cap as usize, first, second, out)
 }

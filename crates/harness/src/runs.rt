@@ -1,9 +1,12 @@
 // Runs: started, continued, collected and thresholded, with the record as words.
 use super::answers;
 use super::words;
+use run::starting::Started;
 ghost use mathlib.Core.Path.{_≡_};
-ghost use Rattle.harness.specs.Runs.{flag, StartsErosionWords, StartsDilationWords, ContinuesWords, CollectsWords};
-ghost use Rattle.harness.specs.Runs.{ThresholdsWords};
+ghost use lib.ListN.{length};
+ghost use Rattle.harness.specs.Boundary.{recordWords};
+ghost use Rattle.harness.specs.Runs.{startedWords, flag, StartsErosionWords, StartsDilationWords};
+ghost use Rattle.harness.specs.Runs.{ContinuesWords, CollectsWords, ThresholdsWords};
 
 // Public: the frame's levels of a finished run, into `out`. Refusals 1, 10, 11, 13.
 #[no_mangle]
@@ -74,6 +77,21 @@ pub extern "C" fn wt_continue(
     0
 }
 
+// Gives the number of a start; the record of an accepted one goes into `words`.
+fn answer_start(started: Started, words: &mut [u64]) -> u32
+    requires { ⌜ length (now words) ≡ recordWords ⌝ }
+    ensures { λ r. ⌜ (r ≡ started .refusal) ×
+        (now (words .exit) ≡ startedWords (started .refusal) (started .run) (now (words .entry))) ⌝ }
+{
+    let refusal = started.refusal;
+    if refusal != 0 {
+        return refusal;
+    }
+    let run = started.run;
+    words::write_record(run, words);
+    0
+}
+
 // Public: starts an erosion; its record goes into `words`. Refusals 2 to 7, 10, 11.
 #[no_mangle]
 pub extern "C" fn wt_start_erosion(
@@ -91,7 +109,7 @@ pub extern "C" fn wt_start_erosion(
     let columns = width as usize;
     let rows = height as usize;
     let element_side = side as usize;
-    if words.len() != 55 {
+    if words.len() != words::RECORD_WORDS {
         let refusal = run::starting::erosion_refusal(
             columns,
             rows,
@@ -103,13 +121,7 @@ pub extern "C" fn wt_start_erosion(
         return answers::at_latest(refusal);
     }
     let started = run::starting::start_erosion(columns, rows, sheet, element_side, cells, levels);
-    let refusal = started.refusal;
-    if refusal != 0 {
-        return refusal;
-    }
-    let run = started.run;
-    words::write_record(run, words);
-    0
+    answer_start(started, words)
 }
 
 // Public: starts a dilation; its record goes into `words`. Refusals 2 to 11.
@@ -131,7 +143,7 @@ pub extern "C" fn wt_start_dilation(
     let rows = height as usize;
     let element_side = side as usize;
     let highest = cap as usize;
-    if words.len() != 55 {
+    if words.len() != words::RECORD_WORDS {
         let refusal = run::starting::dilation_refusal(
             columns,
             rows,
@@ -152,11 +164,5 @@ pub extern "C" fn wt_start_dilation(
         highest,
         levels,
     );
-    let refusal = started.refusal;
-    if refusal != 0 {
-        return refusal;
-    }
-    let run = started.run;
-    words::write_record(run, words);
-    0
+    answer_start(started, words)
 }

@@ -1,4 +1,4 @@
-// A run's record as the 55 words that C has of it: kind, width, height, cap, side, rows done, and the 49 cells.
+// A run's record as the words that C has of it: kind, width, height, cap, side, rows done, and the cells.
 use run::Record;
 ghost use mathlib.Core.Path.{_≡_};
 ghost use mathlib.Core.Bool.{false};
@@ -6,15 +6,23 @@ ghost use mathlib.Core.List.{_∷_, _++_};
 ghost use Prim.Native.Nat.{_≤_};
 ghost use lib.ListN.{length, take, drop};
 ghost use Rattle.basics.specs.Bounds.{anyAbove};
-ghost use Rattle.harness.specs.Boundary.{wordsOf, recordOf, holdsNoRecord};
+ghost use Rattle.harness.specs.Boundary.{recordNumbers, recordWords, highestByte, wordsOf, recordOf, holdsNoRecord};
+
+const RECORD_NUMBERS: usize = 6;
+
+const RECORD_CELLS: usize = 49;
+
+pub const RECORD_WORDS: usize = RECORD_NUMBERS + RECORD_CELLS;
+
+const HIGHEST_BYTE: u64 = 255;
 
 // Whether a cell is more than a byte.
 fn any_wide_cell(words: &[u64]) -> bool
-    ensures { λ r. ⌜ r ≡ anyAbove 255 (drop 6 (now (words .entry))) ⌝ }
+    ensures { λ r. ⌜ r ≡ anyAbove highestByte (drop recordNumbers (now (words .entry))) ⌝ }
 {
-    let mut i = 6;
+    let mut i = RECORD_NUMBERS;
     while i < words.len() {
-        if 255 < words[i] {
+        if HIGHEST_BYTE < words[i] {
             return true;
         }
         i += 1;
@@ -22,14 +30,14 @@ fn any_wide_cell(words: &[u64]) -> bool
     false
 }
 
-// Whether no record is held in the words: there are not 55, or the kind or a cell is more than a byte.
+// Whether no record is held in the words: there are more or fewer, or the kind or a cell is more than a byte.
 pub fn holds_no_record(words: &[u64]) -> bool
     ensures { λ r. ⌜ r ≡ holdsNoRecord (now (words .entry)) ⌝ }
 {
-    if words.len() != 55 {
+    if words.len() != RECORD_WORDS {
         return true;
     }
-    if 255 < words[0] {
+    if HIGHEST_BYTE < words[0] {
         return true;
     }
     any_wide_cell(words)
@@ -42,20 +50,20 @@ fn word_of(byte: u8) -> u64
 }
 
 fn byte_of(word: u64) -> u8
-    requires { ⌜ word ≤ 255 ⌝ }
+    requires { ⌜ word ≤ highestByte ⌝ }
     ensures { λ r. ⌜ r ≡ word ⌝ }
 {
     word as u8
 }
 
-fn read_cells(words: &[u64]) -> [u8; 49]
+fn read_cells(words: &[u64]) -> [u8; RECORD_CELLS]
     requires { ⌜ holdsNoRecord (now words) ≡ false ⌝ }
-    ensures { λ r. ⌜ r ≡ drop 6 (now (words .entry)) ⌝ }
+    ensures { λ r. ⌜ r ≡ drop recordNumbers (now (words .entry)) ⌝ }
 {
-    let mut cells = [0u8; 49];
+    let mut cells = [0u8; RECORD_CELLS];
     let mut k = 0;
-    while k < 49 {
-        let cell = byte_of(words[6 + k]);
+    while k < RECORD_CELLS {
+        let cell = byte_of(words[RECORD_NUMBERS + k]);
         cells[k] = cell;
         k += 1;
     }
@@ -89,8 +97,8 @@ fn write_numbers(
     rows: u64,
     words: &mut [u64],
 )
-    requires { ⌜ length (now words) ≡ 55 ⌝ }
-    ensures { λ _. ⌜ now (words .exit) ≡ kind ∷ width ∷ height ∷ cap ∷ side ∷ rows ∷ drop 6 (now (words .entry)) ⌝ }
+    requires { ⌜ length (now words) ≡ recordWords ⌝ }
+    ensures { λ _. ⌜ now (words .exit) ≡ kind ∷ width ∷ height ∷ cap ∷ side ∷ rows ∷ drop recordNumbers (now (words .entry)) ⌝ }
 {
     words[0] = kind;
     words[1] = width;
@@ -100,21 +108,21 @@ fn write_numbers(
     words[5] = rows;
 }
 
-fn write_cells(cells: [u8; 49], words: &mut [u64])
-    requires { ⌜ length (now words) ≡ 55 ⌝ }
-    ensures { λ _. ⌜ now (words .exit) ≡ take 6 (now (words .entry)) ++ cells ⌝ }
+fn write_cells(cells: [u8; RECORD_CELLS], words: &mut [u64])
+    requires { ⌜ length (now words) ≡ recordWords ⌝ }
+    ensures { λ _. ⌜ now (words .exit) ≡ take recordNumbers (now (words .entry)) ++ cells ⌝ }
 {
     let mut k = 0;
-    while k < 49 {
+    while k < RECORD_CELLS {
         let word = word_of(cells[k]);
-        words[6 + k] = word;
+        words[RECORD_NUMBERS + k] = word;
         k += 1;
     }
 }
 
 // The record's words.
 pub fn write_record(run: Record, words: &mut [u64])
-    requires { ⌜ length (now words) ≡ 55 ⌝ }
+    requires { ⌜ length (now words) ≡ recordWords ⌝ }
     ensures { λ _. ⌜ now (words .exit) ≡ wordsOf run ⌝ }
 {
     let cells = run.cells;

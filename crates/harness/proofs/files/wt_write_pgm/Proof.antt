@@ -1,5 +1,6 @@
 -- The words are read first; with an answer slice of another length only the refusal is judged; else the library answers.
-use Rattle.harness.proofs.FileAnswers.{picture-words, picture-other, picture-refuses, picture-accepts}
+use Rattle.harness.proofs.AnswerLaws.{no-record}
+use Rattle.harness.proofs.FileAnswers.{picture-other, picture-refuses, picture-accepts}
 use mathlib.Core.Path.{sym, _∙_}
 use borrow.Author.Needs.{needs}
 use Rattle.harness.proofs.files.wt_write_pgm.Statement.{statement}
@@ -8,8 +9,7 @@ use Rattle.harness.proofs.files.wt_write_pgm.Tie as tie
 returns : tie.Need-returns
 returns c =
     let args = c .before .before .before .before .before .before .args in
-    picture-words (args .words .now) (args .levels .now) (args .out .now) (args .answer .now)
-    (sym (c .before .holds-no-record .ensures) ∙ c .if1 .taken)
+    no-record (args .words .now) (sym (c .before .holds-no-record .ensures) ∙ c .if1 .taken)
 
 read-record-requires : tie.Need-read-record-requires
 read-record-requires c κs = sym (c .before .holds-no-record .ensures) ∙ c .if1 .left

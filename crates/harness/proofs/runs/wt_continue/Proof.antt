@@ -1,7 +1,8 @@
 -- The words are read first; with an answer slice of another length only the refusal is judged, so that nothing is written; else
 -- the library answers.
+use Rattle.harness.proofs.AnswerLaws.{no-record}
 use Rattle.harness.proofs.WordLaws.{record-length}
-use Rattle.harness.proofs.RunAnswers.{continue-words, continue-other, continue-refuses, continue-accepts}
+use Rattle.harness.proofs.RunAnswers.{continue-other, continue-refuses, continue-accepts}
 use mathlib.Core.Path.{sym, _∙_}
 use borrow.Author.Needs.{needs}
 use Rattle.harness.proofs.runs.wt_continue.Statement.{statement}
@@ -10,8 +11,7 @@ use Rattle.harness.proofs.runs.wt_continue.Tie as tie
 returns : tie.Need-returns
 returns c =
     let args = c .before .before .before .before .before .before .args in
-    continue-words (args .words .now) (args .levels .now) (args .allowance) (args .done .now)
-    (sym (c .before .holds-no-record .ensures) ∙ c .if1 .taken)
+    no-record (args .words .now) (sym (c .before .holds-no-record .ensures) ∙ c .if1 .taken)
 
 read-record-requires : tie.Need-read-record-requires
 read-record-requires c κs = sym (c .before .before .holds-no-record .ensures) ∙ c .before .if1 .left

@@ -1,6 +1,6 @@
 -- With words of another length only the refusal is judged; else the library answers.
 use Rattle.run.specs.Starting.{erosionRefusals}
-use Rattle.harness.proofs.RunAnswers.{start-other, start-refuses, start-accepts}
+use Rattle.harness.proofs.RunAnswers.{start-other, start-answers}
 use borrow.Author.Needs.{needs}
 use Rattle.harness.proofs.runs.wt_start_erosion.Statement.{statement}
 use Rattle.harness.proofs.runs.wt_start_erosion.Tie as tie
@@ -8,36 +8,22 @@ use Rattle.harness.proofs.runs.wt_start_erosion.Tie as tie
 returns : tie.Need-returns
 returns c =
     let args = c .before .before .before .before .before .before .before .before .args in
-    let if1 = c .before .before .before .if1 in
     start-other (erosionRefusals (args .width) (args .height) (args .sheet .now) (args .side) (args .cells .now)
-    (args .levels .now)) tt tt (args .levels .now) (args .words .now) (if1 .taken) (c .at-latest .ensures)
-    (c .before .erosion-refusal .ensures)
+    (args .levels .now)) tt tt (args .levels .now) (args .words .now) (c .before .before .before .if1 .taken)
+    (c .at-latest .ensures) (c .before .erosion-refusal .ensures)
 
 returns-2 : tie.Need-returns-2
 returns-2 c =
-    let args = c .before .before .before .before .before .before .before .before .before .before .args in
-    let if1 = c .before .before .before .before .before .if1 in
-    let start-erosion = c .before .before .before .start-erosion in
-    start-refuses (erosionRefusals (args .width) (args .height) (args .sheet .now) (args .side) (args .cells .now)
-    (args .levels .now)) tt (args .levels .now) (args .words .now) (if1 .left) (start-erosion .result .refusal)
-    (start-erosion .result .run) (start-erosion .last .1 .1 .1 .1 .1 .0) (start-erosion .ensures) (c .if2 .taken)
-
-write-record-requires : tie.Need-write-record-requires
-write-record-requires c κs = c .before .before .before .before .before .before .before .if1 .left
-
-returns-3 : tie.Need-returns-3
-returns-3 c =
-    let args = c .before .before .before .before .before .before .before .before .before .before .before .before .before .before .before .args in
-    let if1 = c .before .before .before .before .before .before .before .before .before .before .if1 in
-    let start-erosion = c .before .before .before .before .before .before .before .before .start-erosion in
-    let if2 = c .before .before .before .before .before .if2 in
-    let write-record = c .before .before .write-record in
-    start-accepts (erosionRefusals (args .width) (args .height) (args .sheet .now) (args .side) (args .cells .now)
-    (args .levels .now)) tt (args .levels .now) (args .words .now) (if1 .left) (start-erosion .result .refusal)
-    (start-erosion .result .run) (start-erosion .last .1 .1 .1 .1 .1 .0) (start-erosion .ensures) (if2 .left)
-    (write-record .last .1 .0) (write-record .ensures)
+    let args = c .before .before .before .before .before .before .before .before .before .before .before .before .before .args in
+    let if1 = c .before .before .before .before .before .before .before .before .if1 in
+    let start = c .before .before .before .before .before .before .start-erosion in
+    let answer = c .before .before .answer-start in
+    rw (answer .ensures .0) (start-answers (erosionRefusals (args .width) (args .height) (args .sheet .now) (args .side)
+    (args .cells .now) (args .levels .now)) tt (args .levels .now) (args .words .now) (if1 .left)
+    (start .result .refusal) (start .result .run) (start .last .1 .1 .1 .1 .1 .0) (start .ensures)
+    (answer .last .1 .0) (answer .ensures .1))
 
 pub wt-start-erosion-spec : {M : Type 1} → statement M
 wt-start-erosion-spec =
     tie.close (tie.spec (λ c κs. search needs) (λ c κs. search needs) (λ c. search needs) returns (λ c κs. search needs)
-    (λ c. search needs) returns-2 write-record-requires (λ c. search needs) (λ c. search needs) returns-3)
+    (λ c κs. search needs) (λ c. search needs) (λ c. search needs) returns-2)

@@ -1,5 +1,5 @@
 -- The words are read, and the library answers.
-use Rattle.harness.proofs.RunAnswers.{threshold-words, threshold-answers}
+use Rattle.harness.proofs.AnswerLaws.{no-record, record-answers}
 use borrow.Author.Needs.{needs}
 use mathlib.Core.Path.{sym, _∙_}
 use Rattle.harness.proofs.runs.wt_threshold.Statement.{statement}
@@ -8,11 +8,10 @@ use Rattle.harness.proofs.runs.wt_threshold.Tie as tie
 returns : tie.Need-returns
 returns c =
     let args = c .before .before .before .before .before .args in
-    threshold-words (args .words .now) (args .levels .now) (args .size) (args .out .now)
-    (sym (c .before .holds-no-record .ensures) ∙ c .if1 .taken)
+    no-record (args .words .now) (sym (c .before .holds-no-record .ensures) ∙ c .if1 .taken)
 
 read-record-requires : tie.Need-read-record-requires
-read-record-requires c κs = (sym (c .before .holds-no-record .ensures) ∙ c .if1 .left)
+read-record-requires c κs = sym (c .before .holds-no-record .ensures) ∙ c .if1 .left
 
 returns-2 : tie.Need-returns-2
 returns-2 c =
@@ -20,10 +19,8 @@ returns-2 c =
     let holds-no-record = c .before .before .before .before .before .before .holds-no-record in
     let if1 = c .before .before .before .before .before .if1 in
     let read-record = c .before .before .before .before .read-record in
-    let threshold = c .before .before .threshold in
-    threshold-answers (args .words .now) (args .levels .now) (args .size) (args .out .now)
-    (sym (holds-no-record .ensures) ∙ if1 .left) (read-record .result) (read-record .ensures) (threshold .result)
-    (threshold .last .1 .1 .1 .0) (threshold .ensures)
+    record-answers (args .words .now) (sym (holds-no-record .ensures) ∙ if1 .left)
+    (rw (read-record .ensures) at (c .before .before .threshold .ensures))
 
 pub wt-threshold-spec : {M : Type 1} → statement M
 wt-threshold-spec =

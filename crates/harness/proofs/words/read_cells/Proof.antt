@@ -1,6 +1,7 @@
 -- The cells are filled one a turn, each from its word.
 use Rattle.basics.proofs.TableLaws.{Filling, filling-start, filling-turn, filling-end}
 use Rattle.harness.proofs.WordLaws.{record-length, record-cell, record-cells}
+use Rattle.harness.specs.Boundary.{recordNumbers, recordCells}
 use borrow.Author.Needs.{needs}
 use native.Mathlib.Omega.{arith}
 use Prim.Native.Nat.{_+_, _-_}
@@ -10,10 +11,10 @@ use Rattle.harness.proofs.words.read_cells.Statement.{statement}
 use Rattle.harness.proofs.words.read_cells.Tie as tie
 
 abbrev Inv-loop : tie.InvT-loop
-Inv-loop words cells₀ k₀ cells k = Filling 49 (λ j. getD words (6 + j) 0) k cells
+Inv-loop words cells₀ k₀ cells k = Filling recordCells (λ j. getD words (recordNumbers + j) 0) k cells
 
 abbrev μ-loop : tie.MeasureT-loop
-μ-loop words cells₀ k₀ cells k = 49 - k
+μ-loop words cells₀ k₀ cells k = recordCells - k
 
 loop-holds : tie.Need-loop-holds Inv-loop μ-loop
 loop-holds c = filling-start _ _ _ refl
@@ -30,13 +31,13 @@ byte-of-requires c κs =
     (c .before .loop-test .taken)
 
 loop-again : tie.Need-loop-again Inv-loop μ-loop
-loop-again c = filling-turn 49 _ _ _ _ (c .before .before .before .loop .inv) (c .before .before .loop-test .taken)
+loop-again c = filling-turn recordCells _ _ _ _ (c .before .before .before .loop .inv) (c .before .before .loop-test .taken)
     (c .byte-of .ensures)
 
 returns : tie.Need-returns Inv-loop μ-loop
 returns c =
     let pre = c .before .before .before .pre in
-    filling-end 49 _ _ _ (c .before .loop .inv) (c .loop-test .left)
+    filling-end recordCells _ _ _ (c .before .loop .inv) (c .loop-test .left)
     ∙ sym (record-cells (c .before .before .before .args .words .now) pre)
 
 pub read-cells-spec : {M : Type 1} → statement M

@@ -1,5 +1,6 @@
 -- The cells are stored one a turn, after the six numbers.
 use Rattle.harness.proofs.WordLaws.{Stored, stored-none, stored-turn, stored-all}
+use Rattle.harness.specs.Boundary.{recordCells}
 use borrow.Author.Needs.{needs}
 use native.Mathlib.Omega.{arith}
 use Prim.Native.Nat.{_-_}
@@ -11,7 +12,7 @@ abbrev Inv-loop : tie.InvT-loop
 Inv-loop words₀ cells k₀ words k = Stored words₀ cells k words
 
 abbrev μ-loop : tie.MeasureT-loop
-μ-loop words₀ cells k₀ words k = 49 - k
+μ-loop words₀ cells k₀ words k = recordCells - k
 
 loop-holds : tie.Need-loop-holds Inv-loop μ-loop
 loop-holds c = stored-none (c .before .args .words .now) (c .before .args .t1) (c .before .pre) (omega arith)
