@@ -23,10 +23,10 @@ pub fn finish(run: Record, levels: &mut [u16])
 fn other_kind(kind: u8) -> u8
     ensures { λ r. ⌜ r ≡ cond (eqb kind 1) 2 1 ⌝ }
 {
-    if kind == 1 {
-        return 2;
+    if kind == run::kinds::EROSION {
+        return run::kinds::DILATION;
     }
-    1
+    run::kinds::EROSION
 }
 
 // The run of the other kind, on all of the area.
