@@ -27,16 +27,16 @@ use Rattle.grid.specs.Starred.{table as cases, figureOf}
 use Rattle.grid.proofs.LevelLaws.{last-unique, first-unique}
 use Rattle.grid.proofs.SameSets.{answer-same}
 use Rattle.grid.proofs.Searches.{Yes, by-test, all-below, both-dec}
-use Rattle.grid.proofs.Starred.{starred}
+use Rattle.grid.proofs.Starred.{starred, pair-reflects, clipping-misses}
 use Rattle.element.specs.Elements.{elementSet, elementRefusals, isSide, countSet}
 use Rattle.element.proofs.Meaning.{drawn-means}
 use Rattle.sheet.specs.Sheets.{rowBytes, packedByte, packed, foreground, isSideOut, sheetRefusals}
 use Rattle.sheet.proofs.PixelLaws.{packed-means}
 use Rattle.run.specs.Starting.{canvasWrong, canvasSize}
-use Rattle.run.specs.StarredRuns.{sheetOf, bytesOf, levelsOf, pictureOf, RunsGive, AfterOneRow}
+use Rattle.run.specs.StarredRuns.{sheetOf, bytesOf, levelsOf, pictureOf}
 use Rattle.run.proofs.StarredRuns.{starred-runs, after-one-row}
 use Rattle.filters.specs.Filters.{Buffers, Cleared, IsSheet, AreLevels, openRefusals, openingRefusals, closingRefusals}
-use Rattle.filters.specs.StarredFilters.{left, Gives, inputOf, FilterGives, FiltersGive}
+use Rattle.filters.specs.StarredFilters.{left, Gives, inputOf, FilterGives, FiltersGive, EveryStarredCase}
 use Rattle.filters.proofs.Uniqueness.{packed-sheet, sheet-one, levels-one, lent-one}
 
 -- where no refusal applies to buffers that fit, and the answer is right, the contract allows it; and what is right is one thing
@@ -174,6 +174,12 @@ filters-give (c ∷ rest) t h = (given c (t .0 .0) (c .question) (t .0 .1) (h .0
 pub starred-filters : FiltersGive cases
 starred-filters = filters-give cases all-taken starred
 
--- EVERY STARRED CASE, of the definitions, of the runs and of the contracts
-pub every-starred-case : AllHold cases × RunsGive cases × AfterOneRow × FiltersGive cases
-every-starred-case = (starred, starred-runs, after-one-row, starred-filters)
+pub every-starred-case : EveryStarredCase
+every-starred-case = record {
+  definitions = starred;
+  runs = starred-runs;
+  one-row = after-one-row;
+  filters = starred-filters;
+  reflected = pair-reflects;
+  clipped = clipping-misses;
+}

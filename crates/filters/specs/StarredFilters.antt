@@ -5,8 +5,9 @@ use mathlib.Core.Path.{_≡_}
 use mathlib.Core.List.{List, [], _∷_}
 use lib.ListN.{length, replicate}
 use Rattle.grid.specs.Starred.{Question, erosionLevels, openingLevels, dilationLevels, closingLevels, erodedBy, openedBy, Case}
+use Rattle.grid.specs.Starred.{AllHold, table as cases, PairReflects, ClippingMisses}
 use Rattle.run.specs.Starting.{canvasSize}
-use Rattle.run.specs.StarredRuns.{sheetOf, bytesOf, levelsOf, pictureOf}
+use Rattle.run.specs.StarredRuns.{sheetOf, bytesOf, levelsOf, pictureOf, RunsGive, AfterOneRow}
 use Rattle.filters.specs.declared.Input.{Input}
 use Rattle.filters.specs.Filters.{Buffers, Opens, OpeningLevels, ClosingLevels}
 
@@ -44,3 +45,13 @@ FilterGives (erodedBy n) c = Unit {0}
 abbrev pub FiltersGive : List Case → Type 0
 FiltersGive [] = Unit {0}
 FiltersGive (c ∷ cases) = FilterGives (c .question) c × FiltersGive cases
+
+-- EVERY STARRED CASE: of the definitions, of the runs and of the contracts; that case 3's element is case 2's reflected, and that
+-- clipping at each step misses case 5's 3
+pub record EveryStarredCase : Type 0 where
+  pub definitions : AllHold cases
+  pub runs : RunsGive cases
+  pub one-row : AfterOneRow
+  pub filters : FiltersGive cases
+  pub reflected : PairReflects
+  pub clipped : ClippingMisses
