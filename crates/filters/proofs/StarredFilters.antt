@@ -2,7 +2,7 @@
 -- which
 -- hold of those sets, are right by the contract; and what is right is one thing.
 -- That no case is refused, and that its sheet is drawn in 0 and 1, is computed over the whole table.
-use Prim.Native.Nat.{ℕ, _*_, _≤_, _<_}
+use Prim.Native.Nat.{ℕ, _≤_, _<_}
 use native.Mathlib.Decide.{ℕ-discrete, decLe, decLt}
 use native.Mathlib.Nat.{le-of-eq}
 use native.Mathlib.Omega.{arith}
@@ -22,20 +22,19 @@ use Rattle.basics.proofs.TableLaws.{length-raster, getD-raster}
 use Rattle.grid.specs.Points.{Point, at}
 use Rattle.grid.specs.Sets.{PointSet}
 use Rattle.grid.specs.Starred.{drawn, Question, erosionLevels, openingLevels, dilationLevels, closingLevels, erodedBy, openedBy}
-use Rattle.grid.specs.Starred.{IsPixel, IsAnswer, Case, shapeOf, AllHold}
-use Rattle.grid.specs.Starred.{table as cases, figureOf}
+use Rattle.grid.specs.Starred.{IsPixel, IsAnswer, Case, shapeOf, AllHold, table as cases, figureOf}
 use Rattle.grid.proofs.LevelLaws.{last-unique, first-unique}
 use Rattle.grid.proofs.SameSets.{answer-same}
 use Rattle.grid.proofs.Searches.{Yes, by-test, all-below, both-dec}
 use Rattle.grid.proofs.Starred.{starred, pair-reflects, clipping-misses}
-use Rattle.element.specs.Elements.{elementSet, elementRefusals, isSide, countSet}
+use Rattle.element.specs.Elements.{elementSet, isSide, countSet}
 use Rattle.element.proofs.Meaning.{drawn-means}
-use Rattle.sheet.specs.Sheets.{rowBytes, packedByte, packed, foreground, isSideOut, sheetRefusals}
+use Rattle.sheet.specs.Sheets.{packedByte, packed, foreground, isSideOut}
 use Rattle.sheet.proofs.PixelLaws.{packed-means}
-use Rattle.run.specs.Starting.{canvasWrong, canvasSize}
 use Rattle.run.specs.StarredRuns.{sheetOf, bytesOf, levelsOf, pictureOf}
 use Rattle.run.proofs.StarredRuns.{starred-runs, after-one-row}
 use Rattle.filters.specs.Filters.{Buffers, Cleared, IsSheet, AreLevels, openRefusals, openingRefusals, closingRefusals}
+use Rattle.filters.specs.Filters.{inputRefusals, isCanvasWrong, frameSize, closingSize, sheetSize}
 use Rattle.filters.specs.StarredFilters.{left, Gives, inputOf, FilterGives, FiltersGive, EveryStarredCase}
 use Rattle.filters.proofs.Uniqueness.{packed-sheet, sheet-one, levels-one, lent-one}
 
@@ -57,28 +56,28 @@ gives refusals number by-lengths Right one work answer none right lent fits =
 -- in 0 and 1
 module _ (c : Case) where
   abbrev numberOf : List Refusal → ℕ → ℕ → ℕ → ℕ → ℕ → ℕ
-  numberOf own work entries first-size second-size out-size =
-      first (sheetRefusals (c .width) (c .height) (sheetOf c) ++ (elementRefusals 3 (bytesOf c) ++ (own ++
-      (10, not (eqb first-size work) || not (eqb second-size work)) ∷ (11, not (eqb out-size (c .height * entries))) ∷ [])))
+  numberOf own work room first-size second-size out-size =
+      first (inputRefusals (inputOf c) (sheetOf c) (bytesOf c) ++ (own ++
+      (10, not (eqb first-size work) || not (eqb second-size work)) ∷ (11, not (eqb out-size room)) ∷ []))
 
   openNumber : ℕ → ℕ → ℕ → ℕ → ℕ
-  openNumber n = numberOf ((8, ltb largestSize n) ∷ []) (c .height * c .width) (rowBytes (c .width))
+  openNumber n = numberOf ((8, ltb largestSize n) ∷ []) (frameSize (inputOf c)) (sheetSize (inputOf c))
 
   closingNumber : ℕ → ℕ → ℕ → ℕ → ℕ
-  closingNumber R = numberOf ((8, ltb highestCap R) ∷ (9, canvasWrong (c .width) (c .height) R 3) ∷ [])
-      (canvasSize (c .width) (c .height) R 3) (c .width)
+  closingNumber R = numberOf ((8, ltb highestCap R) ∷ (9, isCanvasWrong (inputOf c) R) ∷ [])
+      (closingSize (inputOf c) R) (frameSize (inputOf c))
 
   openingNumber : ℕ → ℕ → ℕ → ℕ
-  openingNumber = numberOf [] (c .height * c .width) (c .width)
+  openingNumber = numberOf [] (frameSize (inputOf c)) (frameSize (inputOf c))
 
   Binary : Type 0
   Binary = (row : ℕ) → row < c .height → (col : ℕ) → col < c .width → drawn (c .sheet) row col ≤ 1
 
   NotRefused : Question → Type 0
-  NotRefused openingLevels = openingNumber (c .height * c .width) (c .height * c .width) (length (levelsOf c)) ≡ 0
+  NotRefused openingLevels = openingNumber (frameSize (inputOf c)) (frameSize (inputOf c)) (length (levelsOf c)) ≡ 0
   NotRefused (closingLevels R) =
-      closingNumber R (canvasSize (c .width) (c .height) R 3) (canvasSize (c .width) (c .height) R 3) (length (levelsOf c)) ≡ 0
-  NotRefused (openedBy n) = openNumber n (c .height * c .width) (c .height * c .width) (length (pictureOf c)) ≡ 0
+      closingNumber R (closingSize (inputOf c) R) (closingSize (inputOf c) R) (length (levelsOf c)) ≡ 0
+  NotRefused (openedBy n) = openNumber n (frameSize (inputOf c)) (frameSize (inputOf c)) (length (pictureOf c)) ≡ 0
   NotRefused erosionLevels = Unit {0}
   NotRefused (dilationLevels R) = Unit {0}
   NotRefused (erodedBy n) = Unit {0}

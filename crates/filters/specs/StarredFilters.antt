@@ -1,15 +1,14 @@
 -- Document 01's starred cases once more, through the contracts of opening and closing: with buffers that fit, the one outcome
 -- that a contract allows is 0 with the table's answer.
-use Prim.Native.Nat.{ℕ, _*_}
+use Prim.Native.Nat.{ℕ}
 use mathlib.Core.Path.{_≡_}
 use mathlib.Core.List.{List, [], _∷_}
 use lib.ListN.{length, replicate}
 use Rattle.grid.specs.Starred.{Question, erosionLevels, openingLevels, dilationLevels, closingLevels, erodedBy, openedBy, Case}
 use Rattle.grid.specs.Starred.{AllHold, table as cases, PairReflects, ClippingMisses}
-use Rattle.run.specs.Starting.{canvasSize}
 use Rattle.run.specs.StarredRuns.{sheetOf, bytesOf, levelsOf, pictureOf, RunsGive, AfterOneRow}
 use Rattle.filters.specs.declared.Input.{Input}
-use Rattle.filters.specs.Filters.{Buffers, Opens, OpeningLevels, ClosingLevels}
+use Rattle.filters.specs.Filters.{Buffers, frameSize, closingSize, Opens, OpeningLevels, ClosingLevels}
 
 -- buffers of the sizes asked for, whatever they hold
 pub record Fits (work size : ℕ) (lent : Buffers) : Type 0 where
@@ -34,10 +33,10 @@ inputOf c = record { width = c .width; height = c .height; side = 3 }
 
 -- so for the opening and closing questions of the table; the others are runs' (StarredRuns of run)
 abbrev pub FilterGives : Question → Case → Type 0
-FilterGives openingLevels c = Gives (OpeningLevels (inputOf c) (sheetOf c) (bytesOf c)) (c .height * c .width) (levelsOf c)
+FilterGives openingLevels c = Gives (OpeningLevels (inputOf c) (sheetOf c) (bytesOf c)) (frameSize (inputOf c)) (levelsOf c)
 FilterGives (closingLevels R) c =
-    Gives (ClosingLevels (inputOf c) (sheetOf c) (bytesOf c) R) (canvasSize (c .width) (c .height) R 3) (levelsOf c)
-FilterGives (openedBy n) c = Gives (Opens (inputOf c) (sheetOf c) (bytesOf c) n) (c .height * c .width) (pictureOf c)
+    Gives (ClosingLevels (inputOf c) (sheetOf c) (bytesOf c) R) (closingSize (inputOf c) R) (levelsOf c)
+FilterGives (openedBy n) c = Gives (Opens (inputOf c) (sheetOf c) (bytesOf c) n) (frameSize (inputOf c)) (pictureOf c)
 FilterGives erosionLevels c = Unit {0}
 FilterGives (dilationLevels R) c = Unit {0}
 FilterGives (erodedBy n) c = Unit {0}
