@@ -119,8 +119,8 @@ every-run r levels started series p =
     let completed = ap (λ (t : State). t .1) here in record {
       cuts = here;
       completion = ((λ e. eqb-true n (due r) (sym completed ∙ e)), (λ e. completed ∙ eq-eqb n (due r) e));
-      finished = λ e. subst (λ (t : State). PictureGiven started (t .0) (t .2)) (sym (here ∙ ap (unbroken r levels) e))
+      released = λ e. subst (λ (t : State). PictureGiven started (t .0) (t .2)) (sym (here ∙ ap (unbroken r levels) e))
           (given started);
-      unfinished = λ l. subst (λ (t : State). NoneGiven (t .0) × RowsWanting r (t .0) (t .2)) (sym here)
+      withheld = λ l. subst (λ (t : State). NoneGiven (t .0) × RowsWanting r (t .0) (t .2)) (sym here)
           (none-given started n l, rows-wanting started n l);
     }

@@ -17,7 +17,7 @@ use Rattle.sheet.specs.Means.{LevelsMean, SheetMeans}
 use Rattle.run.specs.declared.Record.{Record}
 use Rattle.run.specs.Records.{due}
 use Rattle.run.specs.Pictures.{sizeLimit, collected, Collects, Thresholds}
-use Rattle.run.specs.Series.{Started, erosion, dilation, Slice, IsSeries, begun, after, unbroken, rowsWorked}
+use Rattle.run.specs.Series.{Started, erosion, dilation, Slice, IsSeries, atStart, after, unbroken, rowsWorked}
 use Rattle.pgm.specs.WritePgm.{maximum, picture, WritesPgm}
 
 -- the picture that a started run is to give, by demand 2: the level of each point, and the set held at a size
@@ -63,14 +63,14 @@ pub record RowsWanting (r run : Record) (own : List ℕ) : Type 0 where
 pub record Demand3 {r : Record} {levels : List ℕ} (started : Started r levels) (series : List Slice) : Type 0 where
   -- record, completion and levels are those of one unbroken scan of as many rows as the accepted allowances sum to, at most the
   -- rows due
-  pub cuts : after (begun r levels) series ≡ unbroken r levels (rowsWorked r series)
-  pub completion : (after (begun r levels) series .1 ≡ true) ↔ (rowsWorked r series ≡ due r)
-  pub finished : rowsWorked r series ≡ due r
-      → PictureGiven started (after (begun r levels) series .0) (after (begun r levels) series .2)
-  pub unfinished : rowsWorked r series < due r
-      → NoneGiven (after (begun r levels) series .0) ×
-      RowsWanting r (after (begun r levels) series .0) (after (begun r levels) series .2)
+  pub cuts : after (atStart r levels) series ≡ unbroken r levels (rowsWorked r series)
+  pub completion : (after (atStart r levels) series .1 ≡ true) ↔ (rowsWorked r series ≡ due r)
+  pub released : rowsWorked r series ≡ due r
+      → PictureGiven started (after (atStart r levels) series .0) (after (atStart r levels) series .2)
+  pub withheld : rowsWorked r series < due r
+      → NoneGiven (after (atStart r levels) series .0) ×
+      RowsWanting r (after (atStart r levels) series .0) (after (atStart r levels) series .2)
 
 abbrev pub EveryRun : Type 0
-EveryRun = (r : Record) (levels : List ℕ) (started : Started r levels) (series : List Slice) → IsSeries (begun r levels) series
+EveryRun = (r : Record) (levels : List ℕ) (started : Started r levels) (series : List Slice) → IsSeries (atStart r levels) series
     → Demand3 started series

@@ -22,7 +22,7 @@ use Rattle.basics.proofs.TableLaws.{length-raster, getD-raster}
 use Rattle.grid.specs.Points.{Point, at}
 use Rattle.grid.specs.Sets.{PointSet}
 use Rattle.grid.specs.Starred.{drawn, Question, erosionLevels, openingLevels, dilationLevels, closingLevels, erodedBy, openedBy}
-use Rattle.grid.specs.Starred.{IsPixel, IsAnswer, Case, shapeOf, AllHold, table as cases, figureOf}
+use Rattle.grid.specs.Starred.{IsPixel, IsAnswer, Case, shapeOf, AllHold, starredCases as cases, figureOf}
 use Rattle.grid.proofs.LevelLaws.{last-unique, first-unique}
 use Rattle.grid.proofs.SameSets.{answer-same}
 use Rattle.grid.proofs.Searches.{Yes, by-test, all-below, both-dec}
@@ -180,5 +180,5 @@ every-starred-case = record {
   one-row = after-one-row;
   filters = starred-filters;
   reflected = pair-reflects;
-  clipped = clipping-misses;
+  clipping = clipping-misses;
 }

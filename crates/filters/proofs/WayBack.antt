@@ -41,7 +41,7 @@ use Rattle.run.specs.Demand2.{finished}
 use Rattle.run.proofs.RecordLaws.{sound}
 use Rattle.run.proofs.ScanCells.{partners-erosion, partners-dilation}
 use Rattle.run.proofs.Started.{length-start}
-use Rattle.run.proofs.Demand2.{same-set, erosion-start, dilation-start}
+use Rattle.run.proofs.Demand2.{cells-mean, erosion-start, dilation-start}
 use Rattle.filters.specs.Back.{back, backStart, wayBack}
 use Rattle.filters.proofs.Opening.{OpeningStart, opening-at, dilated-held}
 use Rattle.filters.proofs.Closing.{onMargin, closing-at}
@@ -87,7 +87,7 @@ module _ (width height : ℕ) (sheet : List ℕ) (side : ℕ) (bytes : List ℕ)
     opening-start : (n : ℕ) → n ≤ largestSize → OpeningStart (areaOf (back r)) A K n (backStart r first n)
     opening-start n l =
         let p = partners-dilation (back r) (sound (back r) (back-taken r e)) refl in
-        let k = same-set side bytes given in
+        let k = cells-mean side bytes given in
         record {
           none-beyond = refl;
           partners-are = ((λ x i. k .0 (neg x) (p .0 x i)), (λ x i. p .1 x (k .1 (neg x) i)));
@@ -196,7 +196,7 @@ module _ (width height : ℕ) (sheet : List ℕ) (side : ℕ) (bytes : List ℕ)
         let w = s .area-wide in
         let h = s .area-high in
         let p = partners-erosion (back r₂) s refl in
-        let k = same-set side bytes given in
+        let k = cells-mean side bytes given in
         let another = accepted-other side bytes given in
         record {
           narrow = omega arith;

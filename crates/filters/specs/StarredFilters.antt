@@ -5,7 +5,7 @@ use mathlib.Core.Path.{_≡_}
 use mathlib.Core.List.{List, [], _∷_}
 use lib.ListN.{length, replicate}
 use Rattle.grid.specs.Starred.{Question, erosionLevels, openingLevels, dilationLevels, closingLevels, erodedBy, openedBy, Case}
-use Rattle.grid.specs.Starred.{AllHold, table as cases, PairReflects, ClippingMisses}
+use Rattle.grid.specs.Starred.{AllHold, starredCases as cases, PairReflects, ClippingMisses}
 use Rattle.run.specs.StarredRuns.{sheetOf, bytesOf, levelsOf, pictureOf, RunsGive, AfterOneRow}
 use Rattle.filters.specs.declared.Input.{Input}
 use Rattle.filters.specs.Filters.{Buffers, frameSize, closingSize, Opens, OpeningLevels, ClosingLevels}
@@ -53,4 +53,4 @@ pub record EveryStarredCase : Type 0 where
   pub one-row : AfterOneRow
   pub filters : FiltersGive cases
   pub reflected : PairReflects
-  pub clipped : ClippingMisses
+  pub clipping : ClippingMisses

@@ -1,4 +1,4 @@
--- The starred cases hold of the definitions, by one test that is computed over the whole table.
+-- The starred cases hold of the definitions, by one test that is computed over the whole starredCases.
 -- A level is tested by two sizes alone: the one that it names is held and the next is not (or the one before, for dilation and
 -- closing), since the sets shrink or grow with the size.
 use mathlib.Core.Path.{_≡_, refl, subst}
@@ -13,7 +13,7 @@ use Rattle.grid.specs.Sets.{PointSet, eroded, dilated, opened, closed}
 use Rattle.grid.specs.Levels.{IsLast, IsFirst}
 use Rattle.grid.specs.Figures.{reach}
 use Rattle.grid.specs.Starred.{drawn, Question, erosionLevels, openingLevels, dilationLevels, closingLevels, erodedBy}
-use Rattle.grid.specs.Starred.{openedBy, IsPixel, IsAnswer, Case, figureOf, shapeOf, AllHold, table, hook, clipped}
+use Rattle.grid.specs.Starred.{openedBy, IsPixel, IsAnswer, Case, figureOf, shapeOf, AllHold, starredCases, hook, clipped}
 use Rattle.grid.specs.Starred.{pair, pairReflected, PairReflects, ClippingMisses}
 use Rattle.grid.proofs.SetLaws.{eroded-shrinks, dilated-grows, opened-shrinks, closed-grows}
 use Rattle.grid.proofs.FigureLaws.{element-reflect}
@@ -116,7 +116,7 @@ module _ (A K : PointSet) (x : Point) (v : ℕ) where
   tested-dec (erodedBy n) d s = pixel-dec (eroded A K n x) (eroded-decided d s n x) v
   tested-dec (openedBy n) d s = pixel-dec (opened A K n x) (opened-decided d s n x) v
 
--- the whole table
+-- the whole starredCases
 CaseTested : Case → Type 0
 CaseTested c = shapeOf c origin ×
     ((row : ℕ) → row < c .height → (col : ℕ) → col < c .width
@@ -152,16 +152,16 @@ all-dec [] = yes tt
 all-dec (c ∷ cases) = both-dec (case-dec c) (all-dec cases)
 
 -- what the tests compute with
-table-tested : AllTested table
+table-tested : AllTested starredCases
 unfolding Yes all-dec AllTested case-dec CaseTested tested-dec Tested pixel-dec LastAt FirstAt last-at-dec first-at-dec
     all-below any-below not-dec both-dec implies-dec same-dec origin-searched dilate-searched fold-searched moved-searched
     erode-decided dilate-decided eroded-decided dilated-decided opened-decided closed-decided figure-decided figure-searched
     element-searched ℕ-discrete decLe decLt
-table-tested = by-test (all-dec table) tt
+table-tested = by-test (all-dec starredCases) tt
 
 -- THE CLAIM: every starred case holds of the definitions
-pub starred : AllHold table
-starred = all-hold table table-tested
+pub starred : AllHold starredCases
+starred = all-hold starredCases table-tested
 
 -- and clipping at each step is not dilating by 2
 clipped-decided : {A : PointSet} → Decided A → Decided (clipped 1 2 A)

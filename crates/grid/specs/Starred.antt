@@ -1,4 +1,4 @@
--- Document 01's small sheets worked by hand, those marked * : one table, proved in proofs/Starred.antt to hold of the
+-- Document 01's small sheets worked by hand, those marked * : one starredCases, proved in proofs/Starred.antt to hold of the
 -- definitions.
 -- Sheets, elements and answers are drawn row by row; an element's origin is at the centre of its square.
 use mathlib.Core.Path.{_≡_}
@@ -45,7 +45,7 @@ pub record Case : Type 0 where
   pub question : Question
   pub expected : Drawing
 
--- every element of the table is drawn in a square of side 3
+-- every element of the starredCases is drawn in a square of side 3
 abbrev pub figureOf : Case → PointSet
 figureOf c = figure (c .width) (c .height) (drawn (c .sheet))
 
@@ -109,8 +109,8 @@ case width height sheet shape question expected =
 abbrev pub fullRow : Case
 fullRow = case 5 1 (oneRow (1 ∷ 1 ∷ 1 ∷ 1 ∷ 1 ∷ [])) pair erosionLevels (oneRow (5 ∷ 4 ∷ 3 ∷ 2 ∷ 1 ∷ []))
 
-abbrev pub table : List Case
-table =
+abbrev pub starredCases : List Case
+starredCases =
     -- 1
     case 3 3 full cross erosionLevels
     ((1 ∷ 1 ∷ 1 ∷ []) ∷

@@ -155,7 +155,7 @@ module _ (done due width height maximum : ℕ) (s : SmallNumbers done due width 
     header-lined = record {
       list = headerLines magic;
       is = header-unlines magic;
-      unbroken = header-unbroken;
+      unbroken-line = header-unbroken;
       short = more m (more (remark-line .1) (more (sides-line .1) (more (short-number maximum (s .small-maximum)) none)));
     }
 

@@ -55,36 +55,36 @@ lines-unlines {list = line ∷ list} (more o h) = cut-piece endsLine 10 (unlines
 pub record Lined (text : List ℕ) : Type 0 where
   pub list : List (List ℕ)
   pub is : text ≡ unlines list
-  pub unbroken : Every Unbroken list
+  pub unbroken-line : Every Unbroken list
   pub short : Every ShortLine list
 
 pub lined-none : Lined []
 unfolding unlines
-lined-none = record { list = []; is = refl; unbroken = none; short = none }
+lined-none = record { list = []; is = refl; unbroken-line = none; short = none }
 
 pub lined-more : (line rest : List ℕ) → Unbroken line → ShortLine line → Lined rest → Lined (line ++ (10 ∷ rest))
 unfolding unlines
 lined-more line rest o s h = record {
   list = line ∷ h .list;
   is = ap (λ tail. line ++ (10 ∷ tail)) (h .is);
-  unbroken = more o (h .unbroken);
+  unbroken-line = more o (h .unbroken-line);
   short = more s (h .short);
 }
 
 pub lined-as : {xs ys : List ℕ} → xs ≡ ys → Lined xs → Lined ys
-lined-as e h = record { list = h .list; is = sym e ∙ h .is; unbroken = h .unbroken; short = h .short }
+lined-as e h = record { list = h .list; is = sym e ∙ h .is; unbroken-line = h .unbroken-line; short = h .short }
 
 pub lined-append : {xs ys : List ℕ} → Lined xs → Lined ys → Lined (xs ++ ys)
 lined-append g h = record {
   list = g .list ++ h .list;
   is = ap₂ (λ x y. x ++ y) (g .is) (h .is) ∙ sym (unlines-append (g .list) (h .list));
-  unbroken = every-append (g .unbroken) (h .unbroken);
+  unbroken-line = every-append (g .unbroken-line) (h .unbroken-line);
   short = every-append (g .short) (h .short);
 }
 
 module _ {text : List ℕ} (h : Lined text) where
   pub lined-list : lines text ≡ h .list
-  lined-list = ap lines (h .is) ∙ lines-unlines (h .unbroken)
+  lined-list = ap lines (h .is) ∙ lines-unlines (h .unbroken-line)
 
   -- its lines are short, and with their ends they are the text
   pub lined-lines : Every ShortLine (lines text)

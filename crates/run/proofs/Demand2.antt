@@ -46,9 +46,9 @@ use Rattle.run.proofs.Started.{is-start, length-start}
 use Rattle.run.proofs.StartLevels.{level-on, level-off, place-down}
 
 -- the record's cells mean the element
-pub same-set : (side : ℕ) (bytes : List ℕ) → Accepted side bytes
+pub cells-mean : (side : ℕ) (bytes : List ℕ) → Accepted side bytes
     → elementSet 7 (flat (centred side bytes)) ≈ elementSet side bytes
-same-set side bytes given =
+cells-mean side bytes given =
     let f = flat-means (centred side bytes) in
     let c = centred-means side bytes (given .side-is) in
     ((λ x h. c .0 x (f .0 x h)), (λ x h. f .1 x (c .1 x h)))
@@ -106,7 +106,7 @@ module _ (width height : ℕ) (sheet : List ℕ) (side : ℕ) (bytes : List ℕ)
       let h = s .area-high in
       let other = accepted-other side bytes given in
       let p = partners-erosion r s refl in
-      let k = same-set side bytes given in
+      let k = cells-mean side bytes given in
       record {
         narrow = omega arith;
         low = omega arith;
@@ -197,7 +197,7 @@ module _ (width height : ℕ) (sheet : List ℕ) (side : ℕ) (bytes : List ℕ)
   pub dilation-start : DilationStart (areaOf r₂) width height R (reach side) A₂ K₂ start₂
   dilation-start =
       let p = partners-dilation r₂ s refl in
-      let k = same-set side bytes given in
+      let k = cells-mean side bytes given in
       let c = s .cap-small in
       record {
         canvas-width = omega arith;

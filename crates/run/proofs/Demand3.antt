@@ -20,7 +20,7 @@ use Rattle.run.specs.declared.Record.{Record}
 use Rattle.run.specs.Records.{areaWidth, areaHeight, areaOf, due, recordBad, noRecord}
 use Rattle.run.specs.Continuing.{levelsWrong, withRows, continued, continueRefusals, Continues}
 use Rattle.run.specs.Pictures.{sizeLimit, collectRefusals, thresholdRefusals}
-use Rattle.run.specs.Series.{Started, State, Slice, Allowed, IsSeries, begun, next, after, allowed, unbroken, rowsWorked}
+use Rattle.run.specs.Series.{Started, State, Slice, Allowed, IsSeries, atStart, next, after, allowed, unbroken, rowsWorked}
 use Rattle.run.specs.Series.{SeriesExist, CutsDoNotShow, AcceptedExactly, NoneReleased, UnfinishedRefused, Released}
 use Rattle.run.proofs.Started.{IsStart, is-start, started-sound}
 
@@ -67,7 +67,7 @@ module _ (r : Record) (levels : List ℕ) (s : IsStart r levels) where
       ap (λ t. after t series) q ∙ rest ∙ ap (unbroken r levels) e
 
   -- a start is an unbroken scan of no rows
-  pub begins : begun r levels ≡ unbroken r levels 0
+  pub begins : atStart r levels ≡ unbroken r levels 0
   begins =
       let f = s .fresh in
       let same : r ≡ withRows r 0 = λ i. withRows r (f i) in

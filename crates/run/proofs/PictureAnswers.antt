@@ -20,7 +20,7 @@ use Rattle.run.specs.declared.Record.{Record}
 use Rattle.run.specs.Records.{isErosion, margin, due, recordBad}
 use Rattle.run.specs.Continuing.{levelsWrong, isDone}
 use Rattle.run.specs.Pictures.{collectedLevel, collected, collectRefusals, Collects, isHeldAt, thresholded, sizeLimit}
-use Rattle.run.specs.Pictures.{pictureRefusals, thresholdRefusals, Thresholds}
+use Rattle.run.specs.Pictures.{releaseRefusals, thresholdRefusals, Thresholds}
 use Rattle.run.specs.Patches.{Canvas, levelIn, limitedTo, heldBetween}
 use Rattle.run.proofs.RecordLaws.{Sound, sound, not-bad}
 
@@ -90,29 +90,29 @@ module _ {r : Record} (s : Sound r) where
 -- the judge of both: each answer from the tests that led to it
 module _ (r : Record) (levels : List ℕ) (n room wanted : ℕ) where
   abbrev judged : ℕ
-  judged = first (pictureRefusals r levels n room wanted)
+  judged = first (releaseRefusals r levels n room wanted)
 
-  pub refuse-size : sizeLimit r < n → 8 ≡ judged
-  refuse-size l = rw (lt-ltb (sizeLimit r) n l)
+  pub size-refused : sizeLimit r < n → 8 ≡ judged
+  size-refused l = rw (lt-ltb (sizeLimit r) n l)
 
   module _ (l : n ≤ sizeLimit r) where
-    pub refuse-levels : levelsWrong r levels ≡ true → 10 ≡ judged
-    refuse-levels b = rw (le-ltb (sizeLimit r) n l, b)
+    pub levels-refused : levelsWrong r levels ≡ true → 10 ≡ judged
+    levels-refused b = rw (le-ltb (sizeLimit r) n l, b)
 
     module _ (b : levelsWrong r levels ≡ false) where
-      pub refuse-room : room ≢ wanted → 11 ≡ judged
-      refuse-room e = rw (le-ltb (sizeLimit r) n l, b, ne-eqb room wanted e)
+      pub room-refused : room ≢ wanted → 11 ≡ judged
+      room-refused e = rw (le-ltb (sizeLimit r) n l, b, ne-eqb room wanted e)
 
       module _ (e : room ≡ wanted) where
-        pub refuse-rows : r .rows ≢ due r → 13 ≡ judged
-        refuse-rows d = rw (le-ltb (sizeLimit r) n l, b, eq-eqb room wanted e, ne-eqb (r .rows) (due r) d)
+        pub rows-refused : r .rows ≢ due r → 13 ≡ judged
+        rows-refused d = rw (le-ltb (sizeLimit r) n l, b, eq-eqb room wanted e, ne-eqb (r .rows) (due r) d)
 
-        pub accept-picture : r .rows ≡ due r → 0 ≡ judged
-        accept-picture d = rw (le-ltb (sizeLimit r) n l, b, eq-eqb room wanted e, eq-eqb (r .rows) (due r) d)
+        pub picture-released : r .rows ≡ due r → 0 ≡ judged
+        picture-released d = rw (le-ltb (sizeLimit r) n l, b, eq-eqb room wanted e, eq-eqb (r .rows) (due r) d)
 
   -- what an accepted picture may rely on
-  pub picture-taken : judged ≡ 0 → (n ≤ sizeLimit r) × (levelsWrong r levels ≡ false) × (room ≡ wanted)
-  picture-taken z = go (ltb (sizeLimit r) n) (levelsWrong r levels) (eqb room wanted) refl refl refl z
+  pub release-taken : judged ≡ 0 → (n ≤ sizeLimit r) × (levelsWrong r levels ≡ false) × (room ≡ wanted)
+  release-taken z = go (ltb (sizeLimit r) n) (levelsWrong r levels) (eqb room wanted) refl refl refl z
     where
       go : (a b c : Bool) → ltb (sizeLimit r) n ≡ a → levelsWrong r levels ≡ b → eqb room wanted ≡ c
           → first ((8, a) ∷ (10, b) ∷ (11, not c) ∷ (13, not (isDone r)) ∷ []) ≡ 0
@@ -124,12 +124,12 @@ module _ (r : Record) (levels : List ℕ) (n room wanted : ℕ) where
 
 -- of a sound record, the calls' own refusals are the judge's; collecting asks for the size 0, which every run takes
 module _ (r : Record) (levels out : List ℕ) (a : recordBad r ≡ false) where
-  pub collect-judged : {number : ℕ} → number ≡ first (pictureRefusals r levels 0 (length out) (r .height * r .width))
+  pub collect-judged : {number : ℕ} → number ≡ first (releaseRefusals r levels 0 (length out) (r .height * r .width))
       → number ≡ first (collectRefusals r levels out)
   collect-judged e = e ∙ rw (a, le-ltb (sizeLimit r) 0 (let h : 0 ≤ sizeLimit r = omega arith in h))
 
   pub threshold-judged : (n : ℕ) {number : ℕ}
-      → number ≡ first (pictureRefusals r levels n (length out) (r .height * rowBytes (r .width)))
+      → number ≡ first (releaseRefusals r levels n (length out) (r .height * rowBytes (r .width)))
       → number ≡ first (thresholdRefusals r levels n out)
   threshold-judged n e = e ∙ rw a
 

@@ -9,7 +9,7 @@ use Rattle.basics.specs.Bounds.{anyAbove}
 use Rattle.basics.specs.Refusals.{Refusal, first}
 use Rattle.basics.specs.Tables.{table, raster}
 use Rattle.grid.specs.Starred.{Question, erosionLevels, openingLevels, dilationLevels, closingLevels, erodedBy, openedBy, Case}
-use Rattle.grid.specs.Starred.{table as cases}
+use Rattle.grid.specs.Starred.{starredCases as cases}
 use Rattle.grid.proofs.Searches.{Yes, by-test, both-dec, same-dec}
 use Rattle.element.specs.Elements.{isSide, countSet}
 use Rattle.element.specs.Cells.{sevenBySeven, isHeld, centredCell, centred, turned, flat, unflat}

@@ -44,13 +44,13 @@ abbrev pub sizeLimit : Record → ℕ
 sizeLimit r = cond (isErosion r) largestSize (r .cap)
 
 -- 8, 10, 11 and 13 of a picture at a size, with `room` entries lent of `wanted`
-abbrev pub pictureRefusals : Record → List ℕ → ℕ → ℕ → ℕ → List Refusal
-pictureRefusals r levels n room wanted =
+abbrev pub releaseRefusals : Record → List ℕ → ℕ → ℕ → ℕ → List Refusal
+releaseRefusals r levels n room wanted =
     (8, ltb (sizeLimit r) n) ∷ (10, levelsWrong r levels) ∷ (11, not (eqb room wanted)) ∷ (13, not (isDone r)) ∷ []
 
 -- thresholding: 1 8 10 11 13
 abbrev pub thresholdRefusals : Record → List ℕ → ℕ → List ℕ → List Refusal
-thresholdRefusals r levels n out = (1, recordBad r) ∷ pictureRefusals r levels n (length out) (r .height * rowBytes (r .width))
+thresholdRefusals r levels n out = (1, recordBad r) ∷ releaseRefusals r levels n (length out) (r .height * rowBytes (r .width))
 
 abbrev pub Thresholds : Record → List ℕ → ℕ → List ℕ → ℕ → List ℕ → Type 0
 Thresholds r levels n out = Answers (thresholdRefusals r levels n out) out (λ after. after ≡ thresholded r levels n)

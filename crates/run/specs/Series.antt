@@ -27,8 +27,8 @@ pub data Started : Record → List ℕ → Type 0 where
 abbrev pub State : Type 0
 State = Record × Bool × List ℕ
 
-abbrev pub begun : Record → List ℕ → State
-begun r levels = (r, isDone r, levels)
+abbrev pub atStart : Record → List ℕ → State
+atStart r levels = (r, isDone r, levels)
 
 -- a call of continue: the record and the levels that it got, its allowance, and its outcome: the number and what it answered
 pub record Slice : Type 0 where
@@ -79,15 +79,15 @@ SeriesExist =
 -- whatever the series, the run is where one unbroken scan of so many rows would be
 abbrev pub CutsDoNotShow : Type 0
 CutsDoNotShow =
-    (r : Record) (levels : List ℕ) → Started r levels → (series : List Slice) → IsSeries (begun r levels) series →
-    after (begun r levels) series ≡ unbroken r levels (rowsWorked r series)
+    (r : Record) (levels : List ℕ) → Started r levels → (series : List Slice) → IsSeries (atStart r levels) series →
+    after (atStart r levels) series ≡ unbroken r levels (rowsWorked r series)
 
 -- a call with the run's own record and levels is accepted exactly up to an allowance of 8,192, and above it refused with 12
 abbrev pub AcceptedExactly : Type 0
 AcceptedExactly =
-    (r : Record) (levels : List ℕ) → Started r levels → (series : List Slice) → IsSeries (begun r levels) series →
+    (r : Record) (levels : List ℕ) → Started r levels → (series : List Slice) → IsSeries (atStart r levels) series →
     (allowance number : ℕ) (answer : State) →
-    Continues (after (begun r levels) series .0) (after (begun r levels) series .2) allowance number answer →
+    Continues (after (atStart r levels) series .0) (after (atStart r levels) series .2) allowance number answer →
     number ≡ cond (ltb mostRows allowance) 12 0
 
 -- before all rows are done no picture is released: collecting and thresholding refuse, and with everything else in order they

@@ -37,18 +37,18 @@ erosionOf c = startRecord erosionKind (c .width) (c .height) 0 3 (bytesOf c)
 abbrev pub dilationOf : Case → ℕ → Record
 dilationOf c R = startRecord dilationKind (c .width) (c .height) R 3 (bytesOf c)
 
-abbrev pub begun : Case → Record → ℕ → ℕ → List ℕ
-begun c r on off = startLevels (c .width) (c .height) (margin r) (sheetOf c) on off
+abbrev pub levelsAtStart : Case → Record → ℕ → ℕ → List ℕ
+levelsAtStart c r on off = startLevels (c .width) (c .height) (margin r) (sheetOf c) on off
 
 -- the run once all its rows are done, and its levels then
 abbrev pub whole : Record → Record
 whole r = withRows r (due r)
 
 abbrev pub erodedLevels : Case → List ℕ
-erodedLevels c = finished (erosionOf c) (begun c (erosionOf c) none 0)
+erodedLevels c = finished (erosionOf c) (levelsAtStart c (erosionOf c) none 0)
 
 abbrev pub dilatedLevels : Case → ℕ → List ℕ
-dilatedLevels c R = finished (dilationOf c R) (begun c (dilationOf c R) 1 none)
+dilatedLevels c R = finished (dilationOf c R) (levelsAtStart c (dilationOf c R) 1 none)
 
 -- neither the start nor the picture is refused, and the picture is the answer
 pub record Shows (start picture : List Refusal) (given answer : List ℕ) : Type 0 where
@@ -80,4 +80,4 @@ RunsGive (c ∷ cases) = Given (c .question) c × RunsGive cases
 
 -- case 2 after one row: all levels are 65,535
 abbrev pub AfterOneRow : Type 0
-AfterOneRow = scanRows (areaOf (erosionOf fullRow)) 0 1 (begun fullRow (erosionOf fullRow) none 0) ≡ replicate 5 none
+AfterOneRow = scanRows (areaOf (erosionOf fullRow)) 0 1 (levelsAtStart fullRow (erosionOf fullRow) none 0) ≡ replicate 5 none

@@ -12,7 +12,7 @@ ghost use Rattle.basics.specs.Tables.{raster};
 ghost use Rattle.sheet.specs.Sheets.{rowBytes, packedByte, packed};
 ghost use Rattle.run.specs.Records.{recordBad};
 ghost use Rattle.run.specs.Patches.{Patch, Canvas, levelIn, limitedTo, heldBetween, weight};
-ghost use Rattle.run.specs.Pictures.{pictureRefusals, Collects, Thresholds};
+ghost use Rattle.run.specs.Pictures.{releaseRefusals, Collects, Thresholds};
 
 // The level, or 0 where it is above the limit.
 fn limited(level: u16, limit: u16) -> u16
@@ -67,9 +67,9 @@ fn copy_frame(
 }
 
 // Refusals 8, 10, 11 and 13 of a picture at a size, of a sound record and with `room` entries lent of `wanted`, or 0.
-fn picture_refusal(run: Record, levels: &[u16], size: usize, room: usize, wanted: usize) -> u32
+fn release_refusal(run: Record, levels: &[u16], size: usize, room: usize, wanted: usize) -> u32
     requires { ⌜ recordBad run ≡ false ⌝ }
-    ensures { λ r. ⌜ r ≡ first (pictureRefusals run (now (levels .entry)) size room wanted) ⌝ }
+    ensures { λ r. ⌜ r ≡ first (releaseRefusals run (now (levels .entry)) size room wanted) ⌝ }
 {
     if kinds::size_limit(run) < size {
         return 8;
@@ -93,7 +93,7 @@ pub fn collect(run: Record, levels: &[u16], out: &mut [u16]) -> u32
     if records::record_bad(run) {
         return 1;
     }
-    let refusal = picture_refusal(run, levels, 0, out.len(), run.height * run.width);
+    let refusal = release_refusal(run, levels, 0, out.len(), run.height * run.width);
     if refusal != 0 {
         return refusal;
     }
@@ -202,7 +202,7 @@ pub fn threshold(run: Record, levels: &[u16], size: usize, out: &mut [u8]) -> u3
         return 1;
     }
     let wanted = run.height * sheet::row_bytes(run.width);
-    let refusal = picture_refusal(run, levels, size, out.len(), wanted);
+    let refusal = release_refusal(run, levels, size, out.len(), wanted);
     if refusal != 0 {
         return refusal;
     }

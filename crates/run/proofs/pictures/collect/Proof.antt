@@ -1,7 +1,7 @@
 -- Each answer follows from the judge's; a sound record has a small area, which its levels cover.
 use Rattle.basics.proofs.RefusalLaws.{refuses, accepts}
 use Rattle.run.proofs.RecordLaws.{area-small}
-use Rattle.run.proofs.PictureAnswers.{sound-record, area-canvas, is-collected, picture-taken, collect-record}
+use Rattle.run.proofs.PictureAnswers.{sound-record, area-canvas, is-collected, release-taken, collect-record}
 use Rattle.run.proofs.PictureAnswers.{collect-judged}
 use borrow.Author.Needs.{needs}
 use native.Mathlib.Omega.{arith}
@@ -17,8 +17,8 @@ returns c =
     refuses 1 (λ z. absurd (omega arith))
     (collect-record (args .run) (args .levels .now) (args .out .now) (sym (record-bad .ensures) ∙ if1 .taken))
 
-mul-picture-refusal : tie.Need-mul-picture-refusal
-mul-picture-refusal c =
+mul-release-refusal : tie.Need-mul-release-refusal
+mul-release-refusal c =
     let args = c .before .before .before .before .before .args in
     let record-bad = c .before .before .record-bad in
     let if1 = c .before .if1 in
@@ -26,8 +26,8 @@ mul-picture-refusal c =
     let small = area-small (args .run .height) (args .run .width) (s .high .1) (s .wide .1) in
     omega arith
 
-picture-refusal-requires : tie.Need-picture-refusal-requires
-picture-refusal-requires c κs =
+release-refusal-requires : tie.Need-release-refusal-requires
+release-refusal-requires c κs =
     let record-bad = c .before .before .record-bad in
     let if1 = c .before .if1 in
     sym (record-bad .ensures) ∙ if1 .left
@@ -37,10 +37,10 @@ returns-2 c =
     let args = c .before .before .before .before .before .before .before .args in
     let record-bad = c .before .before .before .before .record-bad in
     let if1 = c .before .before .before .if1 in
-    let picture-refusal = c .before .picture-refusal in
+    let release-refusal = c .before .release-refusal in
     let if2 = c .if2 in
     refuses _ (if2 .taken) (collect-judged (args .run) (args .levels .now) (args .out .now)
-    (sym (record-bad .ensures) ∙ if1 .left) (picture-refusal .ensures))
+    (sym (record-bad .ensures) ∙ if1 .left) (release-refusal .ensures))
 
 margin-of-requires : tie.Need-margin-of-requires
 margin-of-requires c κs =
@@ -63,11 +63,11 @@ copy-frame-requires c κs =
     let args = earlier .before .args in
     let record-bad = c .before .before .before .before .before .before .before .record-bad in
     let if1 = c .before .before .before .before .before .before .if1 in
-    let picture-refusal = c .before .before .before .before .picture-refusal in
+    let release-refusal = c .before .before .before .before .release-refusal in
     let if2 = c .before .before .before .if2 in
     let margin-of = c .before .before .margin-of in
     let s = sound-record (args .run) (sym (record-bad .ensures) ∙ if1 .left) in
-    let taken = picture-taken (args .run) (args .levels .now) _ _ _ (sym (picture-refusal .ensures) ∙ if2 .left) in
+    let taken = release-taken (args .run) (args .levels .now) _ _ _ (sym (release-refusal .ensures) ∙ if2 .left) in
     (area-canvas s (args .levels .now) (taken .1) (margin-of .result) (margin-of .ensures .0), taken .2)
 
 returns-3 : tie.Need-returns-3
@@ -76,13 +76,13 @@ returns-3 c =
     let args = earlier .before .before .before .before .args in
     let record-bad = earlier .before .record-bad in
     let if1 = earlier .if1 in
-    let picture-refusal = c .before .before .before .before .before .before .before .picture-refusal in
+    let release-refusal = c .before .before .before .before .before .before .before .release-refusal in
     let if2 = c .before .before .before .before .before .before .if2 in
     let margin-of = c .before .before .before .before .before .margin-of in
     let collected-limit = c .before .before .before .before .collected-limit in
     let copy-frame = c .before .before .copy-frame in
     let bad = sym (record-bad .ensures) ∙ if1 .left in
-    let judged = collect-judged (args .run) (args .levels .now) (args .out .now) bad (picture-refusal .ensures) in
+    let judged = collect-judged (args .run) (args .levels .now) (args .out .now) bad (release-refusal .ensures) in
     accepts _ (sym judged ∙ if2 .left)
     (copy-frame .ensures
     ∙ is-collected (sound-record (args .run) bad) (args .levels .now) (margin-of .result) (margin-of .ensures .0)
@@ -90,5 +90,5 @@ returns-3 c =
 
 pub collect-spec : {M : Type 1} → statement M
 collect-spec =
-    tie.close (tie.spec (λ c κs. search needs) returns mul-picture-refusal picture-refusal-requires returns-2
+    tie.close (tie.spec (λ c κs. search needs) returns mul-release-refusal release-refusal-requires returns-2
     margin-of-requires collected-limit-requires copy-frame-requires (λ c. search needs) returns-3)

@@ -1,7 +1,7 @@
 -- Each answer follows from the judge's; a sound record has a small area, which its levels cover, and an accepted size is small.
 use Rattle.basics.proofs.RefusalLaws.{refuses, accepts}
 use Rattle.sheet.proofs.FrameLaws.{raster-small}
-use Rattle.run.proofs.PictureAnswers.{sound-record, area-canvas, size-small, is-thresholded, picture-taken}
+use Rattle.run.proofs.PictureAnswers.{sound-record, area-canvas, size-small, is-thresholded, release-taken}
 use Rattle.run.proofs.PictureAnswers.{threshold-record, threshold-judged}
 use borrow.Author.Needs.{needs}
 use native.Mathlib.Omega.{arith}
@@ -37,8 +37,8 @@ mul-wanted c =
     let e = ap (λ bytes. args .run .height * bytes) (row-bytes .ensures) in
     omega arith
 
-picture-refusal-requires : tie.Need-picture-refusal-requires
-picture-refusal-requires c κs =
+release-refusal-requires : tie.Need-release-refusal-requires
+release-refusal-requires c κs =
     let record-bad = c .before .before .before .record-bad in
     let if1 = c .before .before .if1 in
     sym (record-bad .ensures) ∙ if1 .left
@@ -49,10 +49,10 @@ returns-2 c =
     let record-bad = c .before .before .before .before .before .record-bad in
     let if1 = c .before .before .before .before .if1 in
     let row-bytes = c .before .before .before .row-bytes in
-    let picture-refusal = c .before .picture-refusal in
+    let release-refusal = c .before .release-refusal in
     let if2 = c .if2 in
     refuses _ (if2 .taken) (threshold-judged (args .run) (args .levels .now) (args .out .now)
-    (sym (record-bad .ensures) ∙ if1 .left) (args .size) (rw (row-bytes .ensures) at (picture-refusal .ensures)))
+    (sym (record-bad .ensures) ∙ if1 .left) (args .size) (rw (row-bytes .ensures) at (release-refusal .ensures)))
 
 margin-of-requires : tie.Need-margin-of-requires
 margin-of-requires c κs =
@@ -68,11 +68,11 @@ below-held-requires c κs =
     let record-bad = c .before .before .before .before .before .before .record-bad in
     let if1 = c .before .before .before .before .before .if1 in
     let row-bytes = c .before .before .before .before .row-bytes in
-    let picture-refusal = c .before .before .picture-refusal in
+    let release-refusal = c .before .before .release-refusal in
     let if2 = c .before .if2 in
     let s = sound-record (args .run) (sym (record-bad .ensures) ∙ if1 .left) in
-    let taken = picture-taken (args .run) (args .levels .now) (args .size) (length (args .out .now)) (args .run .height * row-bytes .result)
-    (sym (picture-refusal .ensures) ∙ if2 .left) in
+    let taken = release-taken (args .run) (args .levels .now) (args .size) (length (args .out .now)) (args .run .height * row-bytes .result)
+    (sym (release-refusal .ensures) ∙ if2 .left) in
     size-small s (args .size) (taken .0)
 
 highest-held-requires : tie.Need-highest-held-requires
@@ -82,11 +82,11 @@ highest-held-requires c κs =
     let record-bad = c .before .before .before .before .before .before .before .record-bad in
     let if1 = c .before .before .before .before .before .before .if1 in
     let row-bytes = c .before .before .before .before .before .row-bytes in
-    let picture-refusal = c .before .before .before .picture-refusal in
+    let release-refusal = c .before .before .before .release-refusal in
     let if2 = c .before .before .if2 in
     let s = sound-record (args .run) (sym (record-bad .ensures) ∙ if1 .left) in
-    let taken = picture-taken (args .run) (args .levels .now) (args .size) (length (args .out .now)) (args .run .height * row-bytes .result)
-    (sym (picture-refusal .ensures) ∙ if2 .left) in
+    let taken = release-taken (args .run) (args .levels .now) (args .size) (length (args .out .now)) (args .run .height * row-bytes .result)
+    (sym (release-refusal .ensures) ∙ if2 .left) in
     size-small s (args .size) (taken .0)
 
 pack-frame-requires : tie.Need-pack-frame-requires
@@ -96,12 +96,12 @@ pack-frame-requires c κs =
     let record-bad = earlier .record-bad in
     let if1 = c .before .before .before .before .before .before .before .before .if1 in
     let row-bytes = c .before .before .before .before .before .before .before .row-bytes in
-    let picture-refusal = c .before .before .before .before .before .picture-refusal in
+    let release-refusal = c .before .before .before .before .before .release-refusal in
     let if2 = c .before .before .before .before .if2 in
     let margin-of = c .before .before .before .margin-of in
     let s = sound-record (args .run) (sym (record-bad .ensures) ∙ if1 .left) in
-    let taken = picture-taken (args .run) (args .levels .now) (args .size) (length (args .out .now)) (args .run .height * row-bytes .result)
-    (sym (picture-refusal .ensures) ∙ if2 .left) in
+    let taken = release-taken (args .run) (args .levels .now) (args .size) (length (args .out .now)) (args .run .height * row-bytes .result)
+    (sym (release-refusal .ensures) ∙ if2 .left) in
     let wanted = ap (λ bytes. args .run .height * bytes) (row-bytes .ensures) in
     (area-canvas s (args .levels .now) (taken .1) (margin-of .result) (margin-of .ensures .0), taken .2 ∙ wanted)
 
@@ -112,7 +112,7 @@ returns-3 c =
     let record-bad = earlier .before .before .before .record-bad in
     let if1 = earlier .before .before .if1 in
     let row-bytes = earlier .before .row-bytes in
-    let picture-refusal = c .before .before .before .before .before .before .before .before .picture-refusal in
+    let release-refusal = c .before .before .before .before .before .before .before .before .release-refusal in
     let if2 = c .before .before .before .before .before .before .before .if2 in
     let margin-of = c .before .before .before .before .before .before .margin-of in
     let below-held = c .before .before .before .before .before .below-held in
@@ -120,10 +120,10 @@ returns-3 c =
     let pack-frame = c .before .before .pack-frame in
     let bad = sym (record-bad .ensures) ∙ if1 .left in
     let s = sound-record (args .run) bad in
-    let taken = picture-taken (args .run) (args .levels .now) (args .size) (length (args .out .now)) (args .run .height * row-bytes .result)
-    (sym (picture-refusal .ensures) ∙ if2 .left) in
+    let taken = release-taken (args .run) (args .levels .now) (args .size) (length (args .out .now)) (args .run .height * row-bytes .result)
+    (sym (release-refusal .ensures) ∙ if2 .left) in
     let judged = threshold-judged (args .run) (args .levels .now) (args .out .now) bad (args .size)
-    (rw (row-bytes .ensures) at (picture-refusal .ensures)) in
+    (rw (row-bytes .ensures) at (release-refusal .ensures)) in
     accepts _ (sym judged ∙ if2 .left)
     (pack-frame .ensures
     ∙ is-thresholded s (args .levels .now) (args .size) (size-small s (args .size) (taken .0))
@@ -132,5 +132,5 @@ returns-3 c =
 
 pub threshold-spec : {M : Type 1} → statement M
 threshold-spec =
-    tie.close (tie.spec (λ c κs. search needs) returns row-bytes-requires mul-wanted picture-refusal-requires returns-2
+    tie.close (tie.spec (λ c κs. search needs) returns row-bytes-requires mul-wanted release-refusal-requires returns-2
     margin-of-requires below-held-requires highest-held-requires pack-frame-requires (λ c. search needs) returns-3)

@@ -1,17 +1,17 @@
 -- Each answer follows from the tests that led to it.
 use Rattle.run.proofs.RecordLaws.{not-bad}
-use Rattle.run.proofs.PictureAnswers.{refuse-size, refuse-levels, refuse-room, refuse-rows, accept-picture}
+use Rattle.run.proofs.PictureAnswers.{size-refused, levels-refused, room-refused, rows-refused, picture-released}
 use borrow.Author.Needs.{needs}
 use mathlib.Core.Path.{sym, _∙_}
-use Rattle.run.proofs.pictures.picture_refusal.Statement.{statement}
-use Rattle.run.proofs.pictures.picture_refusal.Tie as tie
+use Rattle.run.proofs.pictures.release_refusal.Statement.{statement}
+use Rattle.run.proofs.pictures.release_refusal.Tie as tie
 
 returns : tie.Need-returns
 returns c =
     let args = c .before .before .before .args in
     let size-limit = c .before .size-limit in
     let if1 = c .if1 in
-    refuse-size (args .run) (args .levels .now) (args .size) (args .room) (args .wanted)
+    size-refused (args .run) (args .levels .now) (args .size) (args .room) (args .wanted)
     (rw (size-limit .ensures) at (if1 .taken))
 
 levels-wrong-requires : tie.Need-levels-wrong-requires
@@ -27,7 +27,7 @@ returns-2 c =
     let if1 = c .before .before .if1 in
     let levels-wrong = c .before .levels-wrong in
     let if2 = c .if2 in
-    refuse-levels (args .run) (args .levels .now) (args .size) (args .room) (args .wanted)
+    levels-refused (args .run) (args .levels .now) (args .size) (args .room) (args .wanted)
     (rw (size-limit .ensures) at (if1 .left)) (sym (levels-wrong .ensures) ∙ if2 .taken)
 
 returns-3 : tie.Need-returns-3
@@ -38,7 +38,7 @@ returns-3 c =
     let levels-wrong = c .before .before .levels-wrong in
     let if2 = c .before .if2 in
     let if3 = c .if3 in
-    refuse-room (args .run) (args .levels .now) (args .size) (args .room) (args .wanted)
+    room-refused (args .run) (args .levels .now) (args .size) (args .room) (args .wanted)
     (rw (size-limit .ensures) at (if1 .left)) (sym (levels-wrong .ensures) ∙ if2 .left) (if3 .taken)
 
 rows-due-requires : tie.Need-rows-due-requires
@@ -57,7 +57,7 @@ returns-4 c =
     let if3 = c .before .before .before .if3 in
     let rows-due = c .before .before .rows-due in
     let if4 = c .if4 in
-    refuse-rows (args .run) (args .levels .now) (args .size) (args .room) (args .wanted)
+    rows-refused (args .run) (args .levels .now) (args .size) (args .room) (args .wanted)
     (rw (size-limit .ensures) at (if1 .left)) (sym (levels-wrong .ensures) ∙ if2 .left) (if3 .left)
     (λ e. if4 .taken (e ∙ sym (rows-due .ensures .0)))
 
@@ -71,11 +71,11 @@ returns-5 c =
     let if3 = c .before .before .before .if3 in
     let rows-due = c .before .before .rows-due in
     let if4 = c .if4 in
-    accept-picture (args .run) (args .levels .now) (args .size) (args .room) (args .wanted)
+    picture-released (args .run) (args .levels .now) (args .size) (args .room) (args .wanted)
     (rw (size-limit .ensures) at (if1 .left)) (sym (levels-wrong .ensures) ∙ if2 .left) (if3 .left)
     (if4 .left ∙ rows-due .ensures .0)
 
-pub picture-refusal-spec : {M : Type 1} → statement M
-picture-refusal-spec =
+pub release-refusal-spec : {M : Type 1} → statement M
+release-refusal-spec =
     tie.close (tie.spec (λ c κs. search needs) returns levels-wrong-requires returns-2 returns-3 rows-due-requires
     returns-4 returns-5)
