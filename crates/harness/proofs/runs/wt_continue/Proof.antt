@@ -42,23 +42,21 @@ returns-3 c =
 
 write-record-requires : tie.Need-write-record-requires
 write-record-requires c κs =
-    let holds-no-record = c .before .before .before .before .before .before .before .before .before .before .before .holds-no-record in
-    let if1 = c .before .before .before .before .before .before .before .before .before .before .if1 in
-    record-length (c .before .before .before .before .before .before .before .before .before .before .before .before .before .before .before .before .args .words .now)
-    (sym (holds-no-record .ensures) ∙ if1 .left)
+    let tested = c .before .before .before .before .before .before .before .before .before .before in
+    record-length (tested .before .before .before .before .before .before .args .words .now) (sym (tested .before .holds-no-record .ensures) ∙ tested .if1 .left)
 
 returns-4 : tie.Need-returns-4
 returns-4 c =
-    let args = c .before .before .before .before .before .before .before .before .before .before .before .before .before .before .before .before .before .before .before .before .args in
-    let holds-no-record = c .before .before .before .before .before .before .before .before .before .before .before .before .before .before .before .holds-no-record in
-    let if1 = c .before .before .before .before .before .before .before .before .before .before .before .before .before .before .if1 in
-    let read-record = c .before .before .before .before .before .before .before .before .before .before .before .before .read-record in
-    let if2 = c .before .before .before .before .before .before .before .before .before .before .before .if2 in
-    let continue-run = c .before .before .before .before .before .before .before .before .before .continue-run in
+    let worked = c .before .before .before .before .before .before .before .before .before in
+    let tested = worked .before .before .before .before .before in
+    let args = tested .before .before .before .before .before .before .args in
+    let read-record = worked .before .before .before .read-record in
+    let continue-run = worked .continue-run in
     let if3 = c .before .before .before .before .before .before .if3 in
     let write-record = c .before .before .before .write-record in
     continue-accepts (args .words .now) (args .levels .now) (args .allowance) (args .done .now)
-    (sym (holds-no-record .ensures) ∙ if1 .left) (read-record .result) (read-record .ensures) (if2 .left)
+    (sym (tested .before .holds-no-record .ensures) ∙ tested .if1 .left) (read-record .result) (read-record .ensures)
+    (worked .before .before .if2 .left)
     (continue-run .result .refusal) (continue-run .result .run) (continue-run .result .done) (continue-run .last .1 .0)
     (continue-run .ensures) (if3 .left) (write-record .last .1 .0) (write-record .ensures) (c .flag-of .result)
     (c .flag-of .ensures)
