@@ -10,7 +10,8 @@ use mathlib.Core.Logic.{_↔_}
 use mathlib.Core.List.{List}
 use lib.Dec.{leb}
 use lib.ListN.{length, getD}
-use borrow.Author.Tests.{ne-eqb, le-ltb, le-leb, leb-true}
+use borrow.Author.Tests.{le-ltb, le-leb, leb-true}
+use Rattle.sheet.proofs.FrameLaws.{side-fits}
 use Rattle.basics.specs.Limits.{longestSide}
 use Rattle.basics.proofs.BoundLaws.{neither}
 use Rattle.basics.proofs.TableLaws.{length-table, getD-table}
@@ -45,10 +46,6 @@ module _ (r : Record) where
   pub back-height : areaHeight (back r) ≡ areaHeight r
   back-height = let z = zero-mul (reach (r .side)) in omega arith
 
-side-ok : (side : ℕ) → 1 ≤ side → side ≤ longestSide → isSideOut side ≡ false
-unfolding isSideOut
-side-ok side a b = rw (ne-eqb side 0 (λ z. absurd (omega arith)), le-ltb longestSide side b)
-
 -- the way back is a run that a start could give
 pub back-taken : (r : Record) → foreign r ≡ false → foreign (back r) ≡ false
 unfolding foreign capForeign
@@ -59,8 +56,8 @@ back-taken r e =
     let f = neither (isSideOut (r .width) || isSideOut (r .height) || elementForeign (r .side) (r .cells)) (capForeign r) e in
     let g = neither (isSideOut (r .width) || isSideOut (r .height)) (elementForeign (r .side) (r .cells)) (f .0) in
     rw (
-      side-ok (areaWidth r) (omega arith) (s .area-wide),
-      side-ok (areaHeight r) (omega arith) (s .area-high),
+      side-fits (areaWidth r) (omega arith) (s .area-wide),
+      side-fits (areaHeight r) (omega arith) (s .area-high),
       g .1,
     ) (cap-taken (isErosion r) refl s)
   where

@@ -11,7 +11,7 @@ use Rattle.basics.specs.Tables.{table, raster}
 use Rattle.sheet.specs.Sheets.{packed}
 use Rattle.row.specs.RowRule.{none}
 use Rattle.run.specs.declared.Record.{Record}
-use Rattle.run.specs.Records.{isErosion, margin, areaWidth, areaHeight, foreign}
+use Rattle.run.specs.Records.{isErosion, margin, areaWidth, areaHeight, foreign, erosionKind, dilationKind}
 use Rattle.run.specs.Patches.{heldBetween}
 use Rattle.run.specs.Pictures.{frameLevel, isHeldAt}
 use Rattle.run.specs.Demand2.{finished}
@@ -20,7 +20,7 @@ use Rattle.filters.specs.declared.back.HeldPart.{HeldPart}
 -- the run of the other kind; its frame is the whole area, so it has no margin of its own
 abbrev pub back : Record → Record
 back r = record {
-  kind = cond (isErosion r) 2 1;
+  kind = cond (isErosion r) dilationKind erosionKind;
   width = areaWidth r;
   height = areaHeight r;
   cap = 0;

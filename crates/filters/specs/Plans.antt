@@ -13,7 +13,7 @@ use Rattle.grid.specs.Levels.{IsOpeningLevel, IsClosingLevel}
 use Rattle.sheet.specs.Sheets.{rowBytes}
 use Rattle.row.specs.RowRule.{none}
 use Rattle.run.specs.declared.Record.{Record}
-use Rattle.run.specs.Records.{marginOf}
+use Rattle.run.specs.Records.{marginOf, erosionKind, dilationKind}
 use Rattle.run.specs.Starting.{startRecord, startLevels, canvasRefusals}
 use Rattle.run.specs.Demand2.{finished}
 use Rattle.filters.specs.declared.Input.{Input}
@@ -51,7 +51,7 @@ lengthsOf lent = record { first = length (lent .first); second = length (lent .s
 -- the first run: an erosion for an opening, a dilation for a closing; its record, how it starts, and its levels in the end
 abbrev pub firstRecord : Input → List ℕ → Plan → Record
 firstRecord input bytes plan =
-    startRecord (cond (plan .closing) 2 1) (input .width) (input .height) (capOf plan) (input .side) bytes
+    startRecord (cond (plan .closing) dilationKind erosionKind) (input .width) (input .height) (capOf plan) (input .side) bytes
 
 abbrev pub firstStart : Input → List ℕ → Plan → List ℕ
 firstStart input sheet plan =

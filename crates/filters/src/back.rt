@@ -8,7 +8,7 @@ ghost use lib.ListN.{length, getD, replicate};
 ghost use Rattle.basics.specs.Limits.{largestSize};
 ghost use Rattle.basics.specs.Tables.{table};
 ghost use Rattle.sheet.specs.Sheets.{rowBytes};
-ghost use Rattle.run.specs.Records.{areaWidth, areaHeight, foreign};
+ghost use Rattle.run.specs.Records.{areaWidth, areaHeight, foreign, erosionKind, dilationKind};
 ghost use Rattle.run.specs.Demand2.{finished};
 ghost use Rattle.filters.specs.Back.{back, chosen, backStart, wayBack, keptSheet, IsHeldPart, Ready};
 
@@ -21,7 +21,7 @@ pub fn finish(run: Record, levels: &mut [u16])
 }
 
 fn other_kind(kind: u8) -> u8
-    ensures { λ r. ⌜ r ≡ cond (eqb kind 1) 2 1 ⌝ }
+    ensures { λ r. ⌜ r ≡ cond (eqb kind erosionKind) dilationKind erosionKind ⌝ }
 {
     if kind == run::kinds::EROSION {
         return run::kinds::DILATION;

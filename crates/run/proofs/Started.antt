@@ -2,22 +2,21 @@
 -- is not foreign is given by some start.
 use Prim.Native.Nat.{ℕ, _*_, _≤_}
 use native.Mathlib.Nat.{zero-mul}
-use native.Mathlib.Omega.{arith}
 use mathlib.Core.Path.{_≡_, refl, sym, ap, subst, _∙_}
 use mathlib.Core.Bool.{false, not, cond, _||_}
 use mathlib.Core.Logic.{_↔_, _⊎_, inl, inr}
 use mathlib.Core.List.{List, [], _∷_, _++_}
 use lib.Dec.{eqb, ltb}
 use lib.ListN.{length, replicate, length-replicate}
-use borrow.Author.Tests.{eq-eqb, ne-eqb, le-ltb}
+use borrow.Author.Tests.{eq-eqb, le-ltb}
 use Rattle.basics.specs.Refusals.{Refusal, first}
 use Rattle.basics.proofs.RefusalLaws.{first-accepted, accepts}
 use Rattle.basics.proofs.TableLaws.{length-raster}
 use Rattle.grid.specs.Figures.{reach}
 use Rattle.element.specs.Elements.{elementRefusals}
 use Rattle.element.proofs.Accepted.{accepted}
-use Rattle.sheet.specs.Sheets.{rowBytes, isSideOut, sheetRefusals}
-use Rattle.sheet.proofs.FrameLaws.{accept-frame, accept-sheet}
+use Rattle.sheet.specs.Sheets.{rowBytes, sheetRefusals}
+use Rattle.sheet.proofs.FrameLaws.{accept-frame, accept-sheet, side-fits}
 use Rattle.row.specs.RowRule.{none}
 use Rattle.run.specs.declared.Record.{Record}
 use Rattle.run.specs.Records.{marginOf, canvasSide, areaWidth, areaHeight, capForeign, foreign, due, recordBad}
@@ -28,11 +27,6 @@ use Rattle.run.proofs.RecordLaws.{Sound, sound}
 use Rattle.run.proofs.Starts.{Judged, judged, erosion-taken, dilation-taken, canvas-taken}
 use Rattle.run.proofs.StartRecords.{start-cells-sound, square, bytes-accepted, bytes-give}
 
--- a side in its range is not out of it
-side-ok : (side : ℕ) → 1 ≤ side → side ≤ 4096 → isSideOut side ≡ false
-unfolding isSideOut
-side-ok side a b = rw (ne-eqb side 0 (λ z. absurd (omega arith)), le-ltb 4096 side b)
-
 -- what both starts accept
 module _ {width height : ℕ} {sheet : List ℕ} {side : ℕ} {bytes : List ℕ} (j : Judged width height sheet side bytes) where
   start-sound : (kind cap : ℕ) → capForeign (startRecord kind width height cap side bytes) ≡ false
@@ -40,8 +34,8 @@ module _ {width height : ℕ} {sheet : List ℕ} {side : ℕ} {bytes : List ℕ}
   unfolding foreign
   start-sound kind cap c =
       rw (
-        side-ok width (j .wide .0) (j .wide .1),
-        side-ok height (j .high .0) (j .high .1),
+        side-fits width (j .wide .0) (j .wide .1),
+        side-fits height (j .high .0) (j .high .1),
         start-cells-sound side bytes (j .element),
         c,
       )
@@ -106,8 +100,8 @@ module _ (r : Record) (s : Sound r) (size : length (r .cells) ≡ 49) where
   sheet-ok : first (sheetRefusals (r .width) (r .height) (blank (r .width) (r .height))) ≡ 0
   unfolding blank
   sheet-ok =
-      let f = accept-frame (r .width) (r .height) (side-ok (r .width) (s .wide .0) (s .wide .1))
-      (side-ok (r .height) (s .high .0) (s .high .1)) in
+      let f = accept-frame (r .width) (r .height) (side-fits (r .width) (s .wide .0) (s .wide .1))
+      (side-fits (r .height) (s .high .0) (s .high .1)) in
       sym (accept-sheet (r .width) (r .height) (replicate (r .height * rowBytes (r .width)) 0) (sym f)
       (length-replicate (r .height * rowBytes (r .width)) 0))
 

@@ -8,7 +8,7 @@ use mathlib.Core.Logic.{_≢_}
 use mathlib.Core.List.{List, [], _∷_}
 use lib.Dec.{eqb, ltb}
 use lib.ListN.{length}
-use borrow.Author.Tests.{eq-eqb, ne-eqb, eqb-true, eqb-false, ltb-false, not-false}
+use borrow.Author.Tests.{eq-eqb, ne-eqb, eqb-true, eqb-false, ltb-false, not-false, le-ltb}
 use Rattle.basics.specs.Limits.{longestSide}
 use Rattle.basics.specs.Refusals.{Refusal, first}
 use Rattle.basics.proofs.BoundLaws.{neither}
@@ -23,6 +23,10 @@ module _ (side : ℕ) where
   pub side-positive : side ≢ 0 → ltb longestSide side ≡ isSideOut side
   unfolding isSideOut
   side-positive n = rw (ne-eqb side 0 n)
+
+  pub side-fits : 1 ≤ side → side ≤ longestSide → isSideOut side ≡ false
+  unfolding isSideOut
+  side-fits a b = rw (ne-eqb side 0 (λ z. absurd (omega arith)), le-ltb longestSide side b)
 
   pub side-in : isSideOut side ≡ false → (1 ≤ side) × (side ≤ longestSide)
   unfolding isSideOut
