@@ -13,7 +13,7 @@ use lib.ListN.{length, set}
 use borrow.Author.Tests.{eq-eqb, ne-eqb, eqb-false, leb-true, ltb-true, le-ltb}
 use Rattle.basics.specs.Refusals.{Refusal, first, Answers}
 use Rattle.basics.proofs.RefusalLaws.{numbered, first-refused, first-accepted, refuses, accepts}
-use Rattle.harness.specs.Boundary.{holdsNoRecord, wordsRefusal, answerRefusal, atLatest}
+use Rattle.harness.specs.Boundary.{holdsNoRecord, wordsRefusal, answerRefusal, answered, atLatest}
 
 -- a library's answer carried over to a list of refusals that gives the same number
 module _ {A B : Type 0} {L M : List Refusal} {keptA : A} {keptB : B} {RightA : A → Type 0} {RightB : B → Type 0} {n : ℕ} {x : A}
@@ -32,6 +32,18 @@ module _ {A : Type 0} {L : List Refusal} {kept : A} {Right : A → Type 0} (word
   pub record-answers : holdsNoRecord words ≡ false → {n : ℕ} {x : A} → Answers L kept Right n x
       → Answers (wordsRefusal words ∷ L) kept Right n x
   record-answers h p = record { refusal = p .refusal ∙ rw h; accepted = p .accepted; refused = p .refused }
+
+-- a value and an output that the library answers: the value goes to a slice
+pub slice-answers : {A : Type 0} {L M : List Refusal} {none right value : A} {kept filled after : List ℕ} {n : ℕ}
+    (write : A → List ℕ) (answer next : List ℕ)
+    → Answers {A = A × List ℕ} L (none, kept) (λ x. x ≡ (right, filled)) n (value, after) → first M ≡ first L
+    → next ≡ answered n (write value) answer
+    → Answers {A = List ℕ × List ℕ} M (kept, answer) (λ x. x ≡ (filled, write right)) n (after, next)
+slice-answers {n} write answer next p e q = record {
+  refusal = p .refusal ∙ sym e;
+  accepted = λ z. rw (q, eq-eqb n 0 z) (ap (λ x. (x .1, write (x .0))) (p .accepted z));
+  refused = λ z. rw (q, ne-eqb n 0 z) (ap (λ x. (x .1, answer)) (p .refused z));
+}
 
 -- an answer slice after all other refusals
 module _ (L : List Refusal) (t : T (numbered L)) (size : ℕ) (answer : List ℕ) where

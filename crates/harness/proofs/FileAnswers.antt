@@ -18,10 +18,10 @@ use Rattle.run.specs.Continuing.{isDone}
 use Rattle.pbm.specs.Header.{Header, broken, whole, beginsP4, header}
 use Rattle.pbm.specs.Pbm.{pbmText, isBroken, frameOf, bodyRefusals, rasterRefusals, writeRefusals, ReadsPbm, WritesPbm}
 use Rattle.pgm.specs.WritePgm.{maximum, picture, pgmRefusals, WritesPgm}
-use Rattle.harness.specs.Boundary.{recordOf, holdsNoRecord, answerRefusal, atLatest}
+use Rattle.harness.specs.Boundary.{recordOf, holdsNoRecord, answerRefusal, answered, atLatest}
 use Rattle.harness.specs.Files.{pictureRefusals, framed, writesRefusals, ReadsSheet, WritesSheet, WritesPicture}
 use Rattle.harness.proofs.AnswerLaws.{latest-refuses, carried-refusal, carried-answer, answer-fits, room-same, room-zero}
-use Rattle.harness.proofs.AnswerLaws.{room-some, one-stored, two-stored}
+use Rattle.harness.proofs.AnswerLaws.{room-some, slice-answers, two-stored}
 
 -- WRITING PBM
 module _ (width height : ℕ) (sheet out answer : List ℕ) where
@@ -33,17 +33,10 @@ module _ (width height : ℕ) (sheet out answer : List ℕ) where
       (room-same (sheetRefusals width height sheet) tt (ltb (length out) (length (pbmText width height sheet))))) e f
 
   module _ (a : length answer ≡ 1) (n size : ℕ) (after : List ℕ) (p : WritesPbm width height sheet out n size after) where
-    pub write-refuses : n ≢ 0 → WritesSheet width height sheet out answer n (after, answer)
-    write-refuses z = carried-refusal p (answer-fits (writeRefusals width height sheet out) tt 1 answer a) z (
-      after,
-      answer,
-    ) (λ q. ap (λ x. (x .1, answer)) q)
-
-    pub write-accepts : n ≡ 0 → WritesSheet width height sheet out answer 0 (after, set answer 0 size)
-    write-accepts z = carried-answer p (answer-fits (writeRefusals width height sheet out) tt 1 answer a) z (
-      after,
-      set answer 0 size,
-    ) (λ q. rw (one-stored answer size a) (ap (λ x. (x .1, x .0 ∷ [])) q))
+    pub write-answers : (next : List ℕ) → next ≡ answered n (size ∷ []) answer
+        → WritesSheet width height sheet out answer n (after, next)
+    write-answers next e =
+        slice-answers (λ length. length ∷ []) answer next p (answer-fits (writeRefusals width height sheet out) tt 1 answer a) e
 
 -- READING PBM
 -- the header's and the raster's refusals, by the header that was found
@@ -111,11 +104,6 @@ module _ (words levels out answer : List ℕ) where
       picture-fits : first (pictureRefusals words levels out answer) ≡ first (pgmRefusals (recordOf words) levels out)
       picture-fits = rw (h, eq-eqb (length answer) 1 a)
 
-      pub picture-refuses : n ≢ 0 → WritesPicture words levels out answer n (after, answer)
-      picture-refuses z = carried-refusal (rw q at p) picture-fits z (after, answer) (λ e. ap (λ x. (x .1, answer)) e)
-
-      pub picture-accepts : n ≡ 0 → WritesPicture words levels out answer 0 (after, set answer 0 size)
-      picture-accepts z = carried-answer (rw q at p) picture-fits z (
-        after,
-        set answer 0 size,
-      ) (λ e. rw (one-stored answer size a) (ap (λ x. (x .1, x .0 ∷ [])) e))
+      pub picture-answers : (next : List ℕ) → next ≡ answered n (size ∷ []) answer
+          → WritesPicture words levels out answer n (after, next)
+      picture-answers next e = slice-answers (λ length. length ∷ []) answer next (rw q at p) picture-fits e

@@ -14,10 +14,10 @@ use Rattle.run.specs.declared.Record.{Record}
 use Rattle.run.specs.Records.{recordBad, noRecord}
 use Rattle.run.specs.Continuing.{levelsWrong, continueRefusals, Continues}
 use Rattle.harness.specs.Boundary.{recordWords, wordsOf, recordOf, holdsNoRecord, wordsRefusal, answerRefusal}
-use Rattle.harness.specs.Boundary.{atEleven, atLatest}
-use Rattle.harness.specs.Runs.{startedWords, flag, continueWords, ContinuesWords}
+use Rattle.harness.specs.Boundary.{atEleven, answered, atLatest}
+use Rattle.harness.specs.Runs.{flag, continueWords, ContinuesWords}
 use Rattle.harness.proofs.AnswerLaws.{upToEleven, latest-refuses, carried-refusal, carried-answer, answer-fits}
-use Rattle.harness.proofs.AnswerLaws.{one-stored}
+use Rattle.harness.proofs.AnswerLaws.{slice-answers, one-stored}
 
 -- STARTING: the record goes into the words
 module _ (refusals : List Refusal) (t : T (numbered refusals)) (levels words : List ℕ)
@@ -26,12 +26,8 @@ module _ (refusals : List Refusal) (t : T (numbered refusals)) (levels words : L
   abbrev StartsWords : ℕ → List ℕ × List ℕ → Type 0
   StartsWords = Answers (refusals ++ answerRefusal recordWords words ∷ []) (levels, words) (λ x. x ≡ (started, wordsOf begun))
 
-  pub start-answers : (next : List ℕ) → next ≡ startedWords n run words → StartsWords n (after, next)
-  start-answers next e = record {
-    refusal = p .refusal ∙ sym (answer-fits refusals t recordWords words a);
-    accepted = λ z. rw (e, eq-eqb n 0 z) (ap (λ x. (x .1, wordsOf (x .0))) (p .accepted z));
-    refused = λ z. rw (e, ne-eqb n 0 z) (ap (λ x. (x .1, words)) (p .refused z));
-  }
+  pub start-answers : (next : List ℕ) → next ≡ answered n (wordsOf run) words → StartsWords n (after, next)
+  start-answers next e = slice-answers wordsOf words next p (answer-fits refusals t recordWords words a) e
 
 -- and where the words are of another length
 pub start-other : (refusals : List Refusal) → T (numbered refusals) → T (upToEleven refusals)

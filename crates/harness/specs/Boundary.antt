@@ -55,6 +55,10 @@ abbrev pub atEleven : Refusal → List Refusal → List Refusal
 atEleven own [] = own ∷ []
 atEleven own (r ∷ rest) = cond (ltb 11 (r .0)) (own ∷ r ∷ rest) (r ∷ atEleven own rest)
 
+-- what an answer slice holds after a call: what the call writes where it gave 0, else what it held
+abbrev pub answered : ℕ → List ℕ → List ℕ → List ℕ
+answered number written answer = cond (eqb number 0) written answer
+
 -- the number of a call whose answer slice is of another length and whose refusals rise (all but reading PBM): 11, unless a lower
 -- one applies too
 abbrev pub atLatest : ℕ → ℕ

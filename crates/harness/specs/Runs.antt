@@ -4,7 +4,6 @@ use Prim.Native.Nat.{ℕ}
 use mathlib.Core.Path.{_≡_}
 use mathlib.Core.Bool.{Bool, cond}
 use mathlib.Core.List.{List, [], _∷_, _++_}
-use lib.Dec.{eqb}
 use Rattle.basics.specs.Refusals.{Answers}
 use Rattle.row.specs.RowRule.{none}
 use Rattle.run.specs.declared.Record.{Record}
@@ -27,10 +26,6 @@ StartsDilationWords width height sheet side cells cap levels words =
       startLevels width height (marginOf cap side) sheet 1 none,
       wordsOf (startRecord 2 width height cap side cells),
     ))
-
--- the words after a start that gave a number and a record: the record where it was accepted, else as they were
-abbrev pub startedWords : ℕ → Record → List ℕ → List ℕ
-startedWords number run words = cond (eqb number 0) (wordsOf run) words
 
 -- continuing: the record, the levels, and whether all rows are done, as 1 or 0
 abbrev pub flag : Bool → ℕ

@@ -52,12 +52,7 @@ pub extern "C" fn wt_write_pbm(
         return answers::at_latest(refusal);
     }
     let written = pbm::write_pbm(columns, rows, sheet, out);
-    let refusal = written.refusal;
-    if refusal != 0 {
-        return refusal;
-    }
-    answer[0] = written.length as u64;
-    0
+    answers::answer_value(written.refusal, written.length as u64, answer)
 }
 
 // Public: writes the collected levels of a finished run as PGM to the front of `out`, and its length into `answer`. Refusals 1,
@@ -81,10 +76,5 @@ pub extern "C" fn wt_write_pgm(
         return answers::at_latest(refusal);
     }
     let written = pgm::finished::write_pgm(run, levels, out);
-    let refusal = written.refusal;
-    if refusal != 0 {
-        return refusal;
-    }
-    answer[0] = written.length as u64;
-    0
+    answers::answer_value(written.refusal, written.length as u64, answer)
 }

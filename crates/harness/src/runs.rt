@@ -4,8 +4,8 @@ use super::words;
 use run::starting::Started;
 ghost use mathlib.Core.Path.{_≡_};
 ghost use lib.ListN.{length};
-ghost use Rattle.harness.specs.Boundary.{recordWords};
-ghost use Rattle.harness.specs.Runs.{startedWords, flag, StartsErosionWords, StartsDilationWords};
+ghost use Rattle.harness.specs.Boundary.{recordWords, wordsOf, answered};
+ghost use Rattle.harness.specs.Runs.{flag, StartsErosionWords, StartsDilationWords};
 ghost use Rattle.harness.specs.Runs.{ContinuesWords, CollectsWords, ThresholdsWords};
 
 // Public: the frame's levels of a finished run, into `out`. Refusals 1, 10, 11, 13.
@@ -81,7 +81,7 @@ pub extern "C" fn wt_continue(
 fn answer_start(started: Started, words: &mut [u64]) -> u32
     requires { ⌜ length (now words) ≡ recordWords ⌝ }
     ensures { λ r. ⌜ (r ≡ started .refusal) ×
-        (now (words .exit) ≡ startedWords (started .refusal) (started .run) (now (words .entry))) ⌝ }
+        (now (words .exit) ≡ answered (started .refusal) (wordsOf (started .run)) (now (words .entry))) ⌝ }
 {
     let refusal = started.refusal;
     if refusal != 0 {

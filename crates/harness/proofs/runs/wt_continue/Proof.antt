@@ -43,7 +43,8 @@ returns-3 c =
 write-record-requires : tie.Need-write-record-requires
 write-record-requires c κs =
     let tested = c .before .before .before .before .before .before .before .before .before .before in
-    record-length (tested .before .before .before .before .before .before .args .words .now) (sym (tested .before .holds-no-record .ensures) ∙ tested .if1 .left)
+    record-length (tested .before .before .before .before .before .before .args .words .now)
+    (sym (tested .before .holds-no-record .ensures) ∙ tested .if1 .left)
 
 returns-4 : tie.Need-returns-4
 returns-4 c =

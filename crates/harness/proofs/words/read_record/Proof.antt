@@ -7,7 +7,7 @@ use Rattle.harness.proofs.words.read_record.Tie as tie
 
 shared-slice-read-byte-of : tie.Need-shared-slice-read-byte-of
 shared-slice-read-byte-of c =
-    record-word (c .before .before .before .args .words .now) (c .before .before .before .pre) 0 (omega arith)
+    record-word (c .before .before .before .args .words .now) (c .before .before .before .pre) _ (omega arith)
 
 byte-of-requires : tie.Need-byte-of-requires
 byte-of-requires c κs = record-kind (c .before .before .before .args .words .now) (c .before .before .before .pre)
@@ -15,27 +15,27 @@ byte-of-requires c κs = record-kind (c .before .before .before .args .words .no
 shared-slice-read-t5 : tie.Need-shared-slice-read-t5
 shared-slice-read-t5 c =
     let pre = c .before .before .before .before .before .pre in
-    record-word (c .before .before .before .before .before .args .words .now) pre 1 (omega arith)
+    record-word (c .before .before .before .before .before .args .words .now) pre _ (omega arith)
 
 shared-slice-read-t9 : tie.Need-shared-slice-read-t9
 shared-slice-read-t9 c =
     let pre = c .before .before .before .before .before .before .pre in
-    record-word (c .before .before .before .before .before .before .args .words .now) pre 2 (omega arith)
+    record-word (c .before .before .before .before .before .before .args .words .now) pre _ (omega arith)
 
 shared-slice-read-t12 : tie.Need-shared-slice-read-t12
 shared-slice-read-t12 c =
     let pre = c .before .before .before .before .before .before .before .pre in
-    record-word (c .before .before .before .before .before .before .before .args .words .now) pre 3 (omega arith)
+    record-word (c .before .before .before .before .before .before .before .args .words .now) pre _ (omega arith)
 
 shared-slice-read-t15 : tie.Need-shared-slice-read-t15
 shared-slice-read-t15 c =
     let pre = c .before .before .before .before .before .before .before .before .pre in
-    record-word (c .before .before .before .before .before .before .before .before .args .words .now) pre 4 (omega arith)
+    record-word (c .before .before .before .before .before .before .before .before .args .words .now) pre _ (omega arith)
 
 shared-slice-read-t18 : tie.Need-shared-slice-read-t18
 shared-slice-read-t18 c =
     let pre = c .before .before .before .before .before .before .before .before .before .pre in
-    record-word (c .before .before .before .before .before .before .before .before .before .args .words .now) pre 5 (omega arith)
+    record-word (c .before .before .before .before .before .before .before .before .before .args .words .now) pre _ (omega arith)
 
 returns : tie.Need-returns
 returns c =
