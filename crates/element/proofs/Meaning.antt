@@ -1,5 +1,5 @@
--- What an element's bytes mean stays the same in each form that the library gives them: seven rows of seven cells, the flat row,
--- and reflected.
+-- What an element's bytes mean stays the same in each form that the library gives them: seven rows of seven cells, the flat
+-- row, and reflected.
 -- Each is one of the grid's laws of squares, at the place of one entry.
 use Prim.Native.Nat.{ℕ, _+_, _-_, _*_, _≤_, _<_}
 use native.Mathlib.Omega.{arith}

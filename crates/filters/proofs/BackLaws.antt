@@ -1,6 +1,5 @@
 -- The way back, of either kind: its record is sound, its area is the first run's, and its start stands on the set that the
--- first
--- run holds.
+-- first run holds.
 use Prim.Native.Nat.{ℕ, suc, _+_, _*_, _≤_, _<_}
 use native.Mathlib.Nat.{zero-mul}
 use native.Mathlib.Omega.{arith}

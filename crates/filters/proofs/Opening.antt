@@ -1,6 +1,5 @@
 -- An opening needs no canvas: after the eroded set is scanned back on the frame itself, the levels 1 to n + 1 stand exactly
--- where
--- opening by n holds.
+-- where opening by n holds.
 -- A walk of at most n steps that ends in the eroded set has all its points in A, for the element has the origin; so they lie in
 -- the frame, where every point is live.
 use mathlib.Core.Path.{_≡_, sym, subst}

@@ -1,6 +1,5 @@
 -- Sheets with the same pixels mean the same set, so that the same is right of both; and they are refused alike, since refusals
--- go
--- by the length alone. One law serves the four calls.
+-- go by the length alone. One law serves the four calls.
 use Prim.Native.Nat.{ℕ}
 use mathlib.Core.Path.{_≡_}
 use mathlib.Core.List.{List}

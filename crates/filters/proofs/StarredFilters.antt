@@ -1,6 +1,5 @@
 -- The starred cases through the contracts: a case's sheet and element mean the sets that it draws, so the table's answers,
--- which
--- hold of those sets, are right by the contract; and what is right is one thing.
+-- which hold of those sets, are right by the contract; and what is right is one thing.
 -- That no case is refused, and that its sheet is drawn in 0 and 1, is computed over the whole table.
 use Prim.Native.Nat.{ℕ, _≤_, _<_}
 use native.Mathlib.Decide.{ℕ-discrete, decLe, decLt}

@@ -1,9 +1,7 @@
 -- After the way back from a finished erosion, or dilation, the frame's points that it holds at n are those of the set opened,
--- or
--- closed, by n.
+-- or closed, by n.
 -- The first run's levels say, at every point of its area, whether the eroded or dilated set has the point; so the way back
--- starts
--- as the opening and the closing theorem ask.
+-- starts as the opening and the closing theorem ask.
 use Prim.Native.Nat.{ℕ, suc, _+_, _*_, _/_, _%_, _≤_, _<_}
 use native.Mathlib.Nat.{zero-mul}
 use native.Mathlib.Omega.{arith}

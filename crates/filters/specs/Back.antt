@@ -1,6 +1,5 @@
 -- The way back from a finished run: an opening dilates what an erosion left, a closing erodes what a dilation gave, on all of
--- the
--- area that the run worked on.
+-- the area that the run worked on.
 use Prim.Native.Nat.{ℕ, zero, suc, _+_, _-_, _*_, _≤_, _<_}
 use mathlib.Core.Path.{_≡_}
 use mathlib.Core.Bool.{Bool, false, cond}

@@ -1,6 +1,5 @@
--- The loop that clears padding: the first k bytes of the output are the packed sheet's, and `left` bytes of the row are still to
--- come. Where one is left it is the
--- row's last, and loses as many bits as the row has padding; any other is copied.
+-- The loop that clears padding: the first k bytes of the output are the packed sheet's, and `left` bytes of the row are still
+-- to come. Where one is left it is the row's last, and loses as many bits as the row has padding; any other is copied.
 use Prim.Native.Nat.{ℕ, suc, _+_, _-_, _*_, _/_, _%_, _^_, _≤_, _<_, min}
 use native.Mathlib.Nat.{zero-mod, mod-one, mod-eq-of-lt, suc-mul, one-le-pow, pow-le-pow-right}
 use native.Mathlib.Omega.{arith}

@@ -1,7 +1,6 @@
 -- Round trips, of the contracts alone. A written text is laid out as a header and its raster, so reading finds the frame and the
 -- cleared sheet, which has the pixels of the sheet. Clearing again changes nothing, so what was read is written as the text of
--- the
--- raster that the file had; and sheets with the same pixels are cleared to one, so they are written alike.
+-- the raster that the file had; and sheets with the same pixels are cleared to one, so they are written alike.
 use Prim.Native.Nat.{ℕ, _*_, _≤_}
 use native.Mathlib.Omega.{arith}
 use mathlib.Core.Path.{_≡_, refl, sym, ap, ap₂, subst, _∙_}

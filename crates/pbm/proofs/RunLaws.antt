@@ -1,6 +1,5 @@
--- Rows of bytes of one kind. The run at the front of a list ends with the list, and at a byte of another kind; so what is all of
--- one kind, with such an end
--- after it, is the run. A loop that goes along the run stands before the same end at each turn.
+-- Rows of bytes of one kind. The run at the front of a list ends with the list, and at a byte of another kind; so what is all
+-- of one kind, with such an end after it, is the run. A loop that goes along the run stands before the same end at each turn.
 use Prim.Native.Nat.{ℕ, suc, _+_, _≤_, _<_}
 use native.Mathlib.Numerals.{add-one}
 use native.Mathlib.Omega.{arith}

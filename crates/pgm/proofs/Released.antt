@@ -1,8 +1,6 @@
 -- Of which runs a picture is written. What the collected levels mean bounds them: eroding by the larger side of the frame leads
--- out
--- of it, so no erosion level is above that side; and a dilation level is at most R + 1 by its cap. The rest are the list's
--- refusals,
--- judged one after the other.
+-- out of it, so no erosion level is above that side; and a dilation level is at most R + 1 by its cap. The rest are the list's
+-- refusals, judged one after the other.
 use Prim.Native.Nat.{ℕ, zero, suc, _+_, _*_, _/_, _%_, _≤_, _<_, max}
 use native.Mathlib.Omega.{arith}
 use mathlib.Core.Path.{_≡_, refl, sym, ap, subst, _∙_}

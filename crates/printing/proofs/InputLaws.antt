@@ -1,6 +1,5 @@
 -- What an input is found to be. The room lent to the reader is never short, for the raster is a part of the input; so the
--- reader's
--- refusals are the file's.
+-- reader's refusals are the file's.
 -- Where it refuses nothing, the header is whole, and the front of the room is the sheet.
 use Prim.Native.Nat.{ℕ, _*_, _≤_, _<_}
 use native.Mathlib.Omega.{arith}

@@ -1,6 +1,5 @@
--- The picture of a sheet of few enough pixels is written: its levels are within the maximum, as a finished run's always are, and
--- its
--- text fits into the room. A sheet of more pixels is refused.
+-- The picture of a sheet of few enough pixels is written: its levels are within the maximum, as a finished run's always are,
+-- and its text fits into the room. A sheet of more pixels is refused.
 use Prim.Native.Nat.{ℕ, _*_, _≤_, _<_}
 use native.Mathlib.Nat.{mul-comm, mul-le-mul}
 use native.Mathlib.Omega.{arith}

@@ -1,5 +1,5 @@
--- The laws of a pass over a stretch of the levels: it grows by one level, two that follow one another join, and two over the same
--- stretch make one.
+-- The laws of a pass over a stretch of the levels: it grows by one level, two that follow one another join, and two over the
+-- same stretch make one.
 -- Each is shown level by level.
 use Prim.Native.Nat.{ℕ, _+_, _-_, _≤_, _<_, min}
 use native.Mathlib.Omega.{arith}

@@ -1,5 +1,5 @@
--- The laws of a buffer that is filled by stretches: a stretch grows by one store, two that follow one another join, and rows make
--- a raster.
+-- The laws of a buffer that is filled by stretches: a stretch grows by one store, two that follow one another join, and rows
+-- make a raster.
 -- Each is shown entry by entry.
 use Prim.Native.Nat.{ℕ, _+_, _-_, _*_, _/_, _%_, _≤_, _<_}
 use native.Mathlib.Nat.{zero-add, zero-mul, add-mul, one-mul, suc-mul, mul-le-mul, mul-le-mul-right}

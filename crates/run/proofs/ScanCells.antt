@@ -1,5 +1,5 @@
--- The cells that a sound record scans with: they stay within the side's reach, and their partners are the element, or the element
--- turned about.
+-- The cells that a sound record scans with: they stay within the side's reach, and their partners are the element, or the
+-- element turned about.
 -- Cell k of the seven by seven is entry k of the flat row, or entry 48 - k where the cells are turned.
 use Prim.Native.Nat.{ℕ, zero, suc, _+_, _-_, _*_, _/_, _%_, _≤_, _<_}
 use native.Mathlib.Omega.{arith}

@@ -1,5 +1,5 @@
--- Laws of `look`: in the area it reads the list, elsewhere the value beyond; a change of one place of the list changes one point;
--- and the row rule's partners read it.
+-- Laws of `look`: in the area it reads the list, elsewhere the value beyond; a change of one place of the list changes one
+-- point; and the row rule's partners read it.
 -- Places and points are tied by two equations of naturals, so that omega does the rest.
 use mathlib.Core.Path.{_≡_, refl, sym, _∙_, ap, ap₂, subst}
 use mathlib.Core.Logic.{_⊎_, inl, inr, _≢_}

@@ -1,5 +1,5 @@
--- Small laws of a scan of rows, by induction on the rows: it may be cut anywhere, it keeps the list's length, and it never raises
--- a level.
+-- Small laws of a scan of rows, by induction on the rows: it may be cut anywhere, it keeps the list's length, and it never
+-- raises a level.
 -- The last two are instances of one: what the row rule keeps at every point, a scan keeps.
 use mathlib.Core.Path.{_≡_, refl, sym, ap, _∙_}
 use borrow.Author.Tests.{lt-ltb, le-ltb}
