@@ -1,155 +1,126 @@
 // Case 10: width 9 takes two bytes a row, and its seven padding bits change no answer. The sheets are 9 by 3 and full, the
-// element is the cross, the size and the cap are 1. Each answer stands in the first bytes of a room, the rest is 0.
+// element is the cross, the size and the cap are 1; a canvas is 11 by 5.
+use super::asking;
+use super::asking::Case;
+use super::calls;
 use super::lines;
-use filters::Input;
 use run::Record;
+ghost use Prim.Native.Nat.{_≤_};
 
 const CROSS: [u8; 9] = [0, 1, 0, 1, 1, 1, 0, 1, 0];
 
-// The frame, and the element's side.
-const INPUT: Input = Input {
-    width: 9,
-    height: 3,
-    side: 3,
-};
+const FRAME: usize = 27;
 
-// The call that is tried.
-enum Tried {
-    ErosionLevels,
-    ErosionByOne,
-    DilationLevels,
-    WritePbm,
-    Open,
-    Close,
-    OpeningLevels,
-    ClosingLevels,
+const CANVAS: usize = 55;
+
+// A packed sheet's bytes, and a file's.
+const SHEET: usize = 6;
+
+const FILE: usize = 13;
+
+// What a call leaves: levels, and a packed sheet or a file at the front of the bytes.
+struct Left {
+    levels: [u16; FRAME],
+    bytes: [u8; FILE],
 }
 
-// A picture's text.
-fn picture_of(record: Record, levels: &[u16]) -> [u8; 128] {
-    let mut text = [0u8; 128];
-    let _written = pgm::finished::write_pgm(record, levels, &mut text);
-    text
+fn same_levels(one: [u16; FRAME], other: [u16; FRAME]) -> bool {
+    let mut i = 0;
+    while i < FRAME {
+        if one[i] != other[i] {
+            return false;
+        }
+        i += 1;
+    }
+    true
 }
 
-// The sheet of a call on sheets.
-fn room_of(sheet: [u8; 6]) -> [u8; 128] {
-    let mut room = [0u8; 128];
-    room[0] = sheet[0];
-    room[1] = sheet[1];
-    room[2] = sheet[2];
-    room[3] = sheet[3];
-    room[4] = sheet[4];
-    room[5] = sheet[5];
-    room
+fn begun(call: usize, sheet: &[u8], levels: &mut [u16]) -> Record {
+    if call == asking::START_EROSION {
+        let started = run::starting::start_erosion(9, 3, sheet, 3, &CROSS, levels);
+        return started.run;
+    }
+    let started = run::starting::start_dilation(9, 3, sheet, 3, &CROSS, 1, levels);
+    started.run
 }
 
-// The sheet's erosion with all rows done.
-fn eroded(sheet: &[u8], levels: &mut [u16]) -> Record {
-    let started = run::starting::start_erosion(9, 3, sheet, 3, &CROSS, levels);
-    let continued = run::continuing::continue_run(started.run, levels, basics::MOST_ROWS);
-    continued.run
-}
-
-fn erosion_levels(sheet: &[u8]) -> [u8; 128] {
-    let mut levels = [0u16; 27];
-    let done = eroded(sheet, &mut levels);
-    let mut out = [0u16; 27];
-    let _refusal = run::pictures::collect(done, &levels, &mut out);
-    picture_of(done, &out)
-}
-
-fn erosion_by_one(sheet: &[u8]) -> [u8; 128] {
-    let mut levels = [0u16; 27];
-    let done = eroded(sheet, &mut levels);
-    let mut out = [0u8; 6];
-    let _refusal = run::pictures::threshold(done, &levels, 1, &mut out);
-    room_of(out)
-}
-
-// On a canvas 11 by 5.
-fn dilation_levels(sheet: &[u8]) -> [u8; 128] {
-    let mut levels = [0u16; 55];
-    let started = run::starting::start_dilation(9, 3, sheet, 3, &CROSS, 1, &mut levels);
-    let continued = run::continuing::continue_run(started.run, &mut levels, basics::MOST_ROWS);
+// A run of all rows: its levels collected, and the sheet that it holds at 1.
+fn run_through(
+    call: usize,
+    sheet: &[u8],
+    work: &mut [u16],
+    out: &mut [u16],
+    bytes: &mut [u8],
+) -> Record {
+    let started = begun(call, sheet, work);
+    let continued = run::continuing::continue_run(started, work, basics::MOST_ROWS);
     let done = continued.run;
-    let mut out = [0u16; 27];
-    let _refusal = run::pictures::collect(done, &levels, &mut out);
-    picture_of(done, &out)
+    let _collected = run::pictures::collect(done, work, out);
+    let _held = run::pictures::threshold(done, work, 1, bytes);
+    done
 }
 
-fn written(sheet: &[u8]) -> [u8; 128] {
-    let mut out = [0u8; 128];
-    let _written = pbm::write_pbm(9, 3, sheet, &mut out);
-    out
+fn case_of(call: usize) -> Case {
+    let mut case = asking::accepted(call);
+    case.width = 9;
+    case
 }
 
-fn opened(sheet: &[u8]) -> [u8; 128] {
-    let mut first = [0u16; 27];
-    let mut second = [0u16; 27];
-    let mut out = [0u8; 6];
-    let _refusal = filters::open(INPUT, sheet, &CROSS, 1, &mut first, &mut second, &mut out);
-    room_of(out)
-}
-
-fn closed(sheet: &[u8]) -> [u8; 128] {
-    let mut first = [0u16; 55];
-    let mut second = [0u16; 55];
-    let mut out = [0u8; 6];
-    let _refusal = filters::close(INPUT, sheet, &CROSS, 1, &mut first, &mut second, &mut out);
-    room_of(out)
-}
-
-// The levels of a transform are shown as a picture, beside the record of a finished erosion.
-fn opening_levels(sheet: &[u8]) -> [u8; 128] {
-    let mut first = [0u16; 27];
-    let mut second = [0u16; 27];
-    let mut out = [0u16; 27];
-    let _refusal = filters::opening_levels(INPUT, sheet, &CROSS, &mut first, &mut second, &mut out);
-    picture_of(eroded(sheet, &mut first), &out)
-}
-
-fn closing_levels(sheet: &[u8]) -> [u8; 128] {
-    let mut first = [0u16; 55];
-    let mut second = [0u16; 55];
-    let mut out = [0u16; 27];
-    let _refusal = filters::closing_levels(
-        INPUT,
+// The call on a sheet, with `work` levels to work with and room for `room` bytes.
+fn left_by(call: usize, sheet: &[u8], work: usize, room: usize) -> Left
+    requires { ⌜ (work ≤ 55) × (room ≤ 13) ⌝ }
+{
+    let mut first_room = [0u16; CANVAS];
+    let mut second_room = [0u16; CANVAS];
+    let mut levels = [0u16; FRAME];
+    let mut bytes = [0u8; FILE];
+    let first: &mut [u16] = &mut first_room;
+    let second: &mut [u16] = &mut second_room;
+    let out: &mut [u8] = &mut bytes;
+    if call <= asking::START_DILATION {
+        run_through(
+            call,
+            sheet,
+            &mut first[0..work],
+            &mut levels,
+            &mut out[0..room],
+        );
+        return Left { levels, bytes };
+    }
+    calls::answer(
+        case_of(call),
+        sheet,
         sheet,
         &CROSS,
-        1,
-        &mut first,
-        &mut second,
-        &mut out,
+        &mut first[0..work],
+        &mut second[0..work],
+        &mut levels,
+        &mut out[0..room],
     );
-    let mut levels = [0u16; 27];
-    picture_of(eroded(sheet, &mut levels), &out)
+    Left { levels, bytes }
 }
 
-fn answer(call: Tried, sheet: &[u8]) -> [u8; 128] {
-    match call {
-        Tried::ErosionLevels => erosion_levels(sheet),
-        Tried::ErosionByOne => erosion_by_one(sheet),
-        Tried::DilationLevels => dilation_levels(sheet),
-        Tried::WritePbm => written(sheet),
-        Tried::Open => opened(sheet),
-        Tried::Close => closed(sheet),
-        Tried::OpeningLevels => opening_levels(sheet),
-        Tried::ClosingLevels => closing_levels(sheet),
-    }
-}
-
-// Compares the answers to the sheet with its padding bits unset and set.
-fn compare(name: &[u8], call: Tried) {
+// Compares what a call leaves of the sheet with its padding bits unset and set.
+fn compare(name: &[u8], call: usize, work: usize, room: usize)
+    requires { ⌜ (work ≤ 55) × (room ≤ 13) ⌝ }
+{
     let unset = [255u8, 128, 255, 128, 255, 128];
-    let set = [255u8; 6];
-    let one = answer(call, &unset);
-    let other = answer(call, &set);
-    lines::say_same(name, check::same(&one, &other));
+    let set = [255u8; SHEET];
+    let one = left_by(call, &unset, work, room);
+    let other = left_by(call, &set, work, room);
+    let one_levels = one.levels;
+    let other_levels = other.levels;
+    let one_bytes = one.bytes;
+    let other_bytes = other.bytes;
+    if same_levels(one_levels, other_levels) {
+        lines::say_same(name, check::same(&one_bytes, &other_bytes));
+        return;
+    }
+    lines::say_same(name, false);
 }
 
-fn read(file: &[u8]) -> [u8; 6] {
-    let mut out = [0u8; 6];
+fn read(file: &[u8]) -> [u8; SHEET] {
+    let mut out = [0u8; SHEET];
     let _found = pbm::read_pbm(file, &mut out);
     out
 }
@@ -160,21 +131,33 @@ fn compare_read() {
     lines::say_same(b"read_pbm", check::same(&one, &other));
 }
 
+// The picture of the erosion of the sheet with its padding bits set.
 fn show_levels() {
-    let sheet = [255u8; 6];
-    let picture = erosion_levels(&sheet);
-    lines::say_text(&picture, 77);
+    let sheet = [255u8; SHEET];
+    let mut work = [0u16; FRAME];
+    let mut levels = [0u16; FRAME];
+    let mut bytes = [0u8; SHEET];
+    let done = run_through(
+        asking::START_EROSION,
+        &sheet,
+        &mut work,
+        &mut levels,
+        &mut bytes,
+    );
+    let mut text = [0u8; 128];
+    let written = pgm::finished::write_pgm(done, &levels, &mut text);
+    lines::say_text(&text, written.length);
 }
 
 pub fn same_answers() {
     show_levels();
-    compare(b"erosion levels", Tried::ErosionLevels);
-    compare(b"erosion by 1", Tried::ErosionByOne);
-    compare(b"dilation levels", Tried::DilationLevels);
-    compare(b"write_pbm", Tried::WritePbm);
+    compare(b"erosion levels", asking::START_EROSION, FRAME, SHEET);
+    compare(b"erosion by 1", asking::START_EROSION, FRAME, SHEET);
+    compare(b"dilation levels", asking::START_DILATION, CANVAS, SHEET);
+    compare(b"write_pbm", asking::WRITE_PBM, FRAME, FILE);
     compare_read();
-    compare(b"opening by 1", Tried::Open);
-    compare(b"closing by 1", Tried::Close);
-    compare(b"opening levels", Tried::OpeningLevels);
-    compare(b"closing levels", Tried::ClosingLevels);
+    compare(b"opening by 1", asking::OPEN, FRAME, SHEET);
+    compare(b"closing by 1", asking::CLOSE, CANVAS, SHEET);
+    compare(b"opening levels", asking::OPENING_LEVELS, FRAME, FILE);
+    compare(b"closing levels", asking::CLOSING_LEVELS, CANVAS, FILE);
 }
