@@ -1,6 +1,6 @@
 -- NO SECOND OUTCOME: the inputs of each call at the boundary fix its number and all that stands in the slices lent to it.
 use Prim.Native.Nat.{ℕ}
-use mathlib.Core.Path.{_≡_, sym, _∙_}
+use mathlib.Core.Path.{_≡_}
 use mathlib.Core.List.{List}
 use Rattle.basics.proofs.RefusalLaws.{rule-unique}
 use Rattle.element.specs.Reflect.{Reflects}

@@ -1,6 +1,6 @@
 -- A record as words: what is known of words that hold one, and the stores that write one.
 -- Words that a record was written to give that record back.
-use Prim.Native.Nat.{ℕ, zero, suc, _+_, _≤_, _<_}
+use Prim.Native.Nat.{ℕ, _+_, _≤_, _<_}
 use native.Mathlib.Nat.{le-of-eq}
 use native.Mathlib.Numerals.{add-one}
 use native.Mathlib.Omega.{arith}
