@@ -10,6 +10,7 @@ use mathlib.Core.List.{List}
 use lib.Dec.{leb}
 use lib.ListN.{length, getD}
 use borrow.Author.Tests.{le-ltb, le-leb, leb-true}
+use Rattle.basics.proofs.Arithmetic.{entry-below}
 use Rattle.sheet.proofs.FrameLaws.{side-fits}
 use Rattle.basics.specs.Limits.{longestSide}
 use Rattle.basics.proofs.BoundLaws.{neither}
@@ -19,7 +20,7 @@ use Rattle.grid.specs.Sets.{PointSet}
 use Rattle.grid.specs.Figures.{reach}
 use Rattle.sheet.specs.Sheets.{isSideOut}
 use Rattle.scan.specs.Look.{look}
-use Rattle.scan.proofs.LookLaws.{spot, look-inside, place-in}
+use Rattle.scan.proofs.LookLaws.{spot, look-inside}
 use Rattle.run.specs.declared.Record.{Record}
 use Rattle.run.specs.Records.{isErosion, areaWidth, areaHeight, areaOf, elementForeign, capForeign, foreign}
 use Rattle.run.specs.Pictures.{isHeldAt}
@@ -95,7 +96,7 @@ module _ (r : Record) (first : List ℕ) (n : ℕ) (S : PointSet) (size : length
         let bw = back-width r in
         let bh = back-height r in
         let f : ℕ → ℕ = λ k. cond (isHeldAt r n (getD first k 0)) (onOf (back r)) (offOf (back r)) in
-        let l = place-in (areaWidth r) (areaHeight r) row col (omega arith) (omega arith) in
+        let l = entry-below (areaWidth r) (areaHeight r) row col (omega arith) (omega arith) in
         ap (λ w. getD (backStart r first n) (row * w + col) 0) bw
         ∙ getD-table f (length first) (row * areaWidth r + col) 0 (omega arith)
         ∙ ap (λ v. cond (isHeldAt r n v) (onOf (back r)) (offOf (back r)))

@@ -14,7 +14,7 @@ use lib.IntN.{pos}
 use lib.ListN.{length, getD}
 use borrow.Author.Tests.{lt-ltb, ltb-true}
 use Rattle.basics.specs.Limits.{largestSize}
-use Rattle.basics.proofs.Arithmetic.{row-below, column-below, entry-of}
+use Rattle.basics.proofs.Arithmetic.{row-below, column-below, entry-of, entry-below}
 use Rattle.grid.specs.Points.{Point, at, neg}
 use Rattle.grid.specs.Sets.{PointSet, eroded, dilated, opened, closed}
 use Rattle.grid.specs.Figures.{frame, reach}
@@ -28,7 +28,7 @@ use Rattle.row.specs.RowRule.{none}
 use Rattle.scan.specs.Look.{look}
 use Rattle.scan.specs.Starts.{ErosionStart}
 use Rattle.scan.proofs.ScanLaws.{rows-length}
-use Rattle.scan.proofs.LookLaws.{spot, look-inside, look-beyond, place-in}
+use Rattle.scan.proofs.LookLaws.{spot, look-inside, look-beyond}
 use Rattle.scan.proofs.Erosion.{erosion-scan, erosion-small}
 use Rattle.scan.proofs.Dilation.{dilation-scan}
 use Rattle.run.specs.declared.Record.{Record}
@@ -142,7 +142,7 @@ module _ (width height : ℕ) (sheet : List ℕ) (side : ℕ) (bytes : List ℕ)
         go : Dec (frame (areaWidth r) (areaHeight r) a) → j < most
         go (yes (row, col, i, k, q)) =
             let m = all (row * areaWidth r + col)
-            (let p = place-in (areaWidth r) (areaHeight r) row col i k in let z = first-size in omega arith) in
+            (let p = entry-below (areaWidth r) (areaHeight r) row col i k in let z = first-size in omega arith) in
             let v = ap (look (areaOf r) first) q ∙ look-inside (areaOf r) first row col i k in
             let u = l in
             omega arith

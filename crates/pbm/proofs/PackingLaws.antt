@@ -1,5 +1,7 @@
--- A row's bytes are copied as they are, all but the last, whose padding bits are taken off as a remainder. A byte is the sum of
--- its bits by their weights, so without its lowest bits it is the sum of the others: omega shows it for each of the eight numbers
+-- A row's bytes are copied as they are, all but the last, whose padding bits are taken off as a remainder. A byte is
+-- the sum of
+-- its bits by their weights, so without its lowest bits it is the sum of the others: omega shows it for each of the
+-- eight numbers
 -- of bits that a last byte can keep.
 use Prim.Native.Nat.{ℕ, zero, suc, _+_, _-_, _*_, _/_, _%_, _^_, _≤_, _<_, min}
 use native.Mathlib.Nat.{div-div-eq-div-mul, div-add-mod}
@@ -22,7 +24,8 @@ abbrev weigh : (ℕ → ℕ) → ℕ
 weigh at = 128 * at 0 + 64 * at 1 + 32 * at 2 + 16 * at 3 + 8 * at 4 + 4 * at 5 + 2 * at 6 + at 7
 
 packed-weigh : (width : ℕ) (pixels : ℕ → ℕ) (k : ℕ) (at : ℕ → ℕ)
-    → ((i : ℕ) → i < 8 → cond (ltb (k * 8 + i) width) (pixels (k * 8 + i)) 0 ≡ at i) → packedByte width pixels k ≡ weigh at
+    → ((i : ℕ) → i < 8 → cond (ltb (k * 8 + i) width) (pixels (k * 8 + i)) 0 ≡ at i)
+    → packedByte width pixels k ≡ weigh at
 unfolding packedByte
 packed-weigh width pixels k at e =
     rw (
@@ -40,17 +43,20 @@ packed-weigh width pixels k at e =
 abbrev keptBits : ℕ → ℕ → ℕ → ℕ
 keptBits byte kept i = cond (ltb i kept) (bit byte i) 0
 
--- eight halves in a row, each twice the next and a bit: without its lowest bits, a number is the sum of the others by their
+-- eight halves in a row, each twice the next and a bit: without its lowest bits, a number is the sum of the others by
+-- their
 -- weights
 abbrev Sums : (n h₁ h₂ h₃ h₄ h₅ h₆ h₇ a b c d e f g h : ℕ) → Type 0
 Sums n h₁ h₂ h₃ h₄ h₅ h₆ h₇ a b c d e f g h =
     (128 * a ≡ 128 * h₇) × (128 * a + 64 * b ≡ 64 * h₆) × (128 * a + 64 * b + 32 * c ≡ 32 * h₅) ×
     (128 * a + 64 * b + 32 * c + 16 * d ≡ 16 * h₄)
-    × (128 * a + 64 * b + 32 * c + 16 * d + 8 * e ≡ 8 * h₃) × (128 * a + 64 * b + 32 * c + 16 * d + 8 * e + 4 * f ≡ 4 * h₂)
+    × (128 * a + 64 * b + 32 * c + 16 * d + 8 * e ≡ 8 * h₃) ×
+    (128 * a + 64 * b + 32 * c + 16 * d + 8 * e + 4 * f ≡ 4 * h₂)
     × (128 * a + 64 * b + 32 * c + 16 * d + 8 * e + 4 * f + 2 * g ≡ 2 * h₁) ×
     (128 * a + 64 * b + 32 * c + 16 * d + 8 * e + 4 * f + 2 * g + h ≡ n)
 
-sums : (n h₁ h₂ h₃ h₄ h₅ h₆ h₇ a b c d e f g h : ℕ) → n ≡ 2 * h₁ + h → h₁ ≡ 2 * h₂ + g → h₂ ≡ 2 * h₃ + f → h₃ ≡ 2 * h₄ + e
+sums : (n h₁ h₂ h₃ h₄ h₅ h₆ h₇ a b c d e f g h : ℕ) → n ≡ 2 * h₁ + h → h₁ ≡ 2 * h₂ + g → h₂ ≡ 2 * h₃ + f
+    → h₃ ≡ 2 * h₄ + e
     → h₄ ≡ 2 * h₅ + d → h₅ ≡ 2 * h₆ + c → h₆ ≡ 2 * h₇ + b → h₇ ≡ a
     → Sums n h₁ h₂ h₃ h₄ h₅ h₆ h₇ a b c d e f g h
 sums n h₁ h₂ h₃ h₄ h₅ h₆ h₇ a b c d e f g h p q r s t u v w =
@@ -64,7 +70,8 @@ module _ (byte : ℕ) (small : byte < 256) where
   less : (n m : ℕ) → m ≡ n * (byte / n) → m ≡ byte - byte % n
   less n m e = let d = div-add-mod byte n in omega arith
 
-  weights : Sums byte (byte / 2) (byte / 4) (byte / 8) (byte / 16) (byte / 32) (byte / 64) (byte / 128) (bit byte 0) (bit byte 1)
+  weights : Sums byte (byte / 2) (byte / 4) (byte / 8) (byte / 16) (byte / 32) (byte / 64) (byte / 128) (bit byte 0)
+      (bit byte 1)
       (bit byte 2) (bit byte 3) (bit byte 4) (bit byte 5) (bit byte 6) (bit byte 7)
   weights =
       sums byte (byte / 2) (byte / 4) (byte / 8) (byte / 16) (byte / 32) (byte / 64) (byte / 128) _ _ _ _ _ _ _ _
@@ -77,7 +84,8 @@ module _ (byte : ℕ) (small : byte < 256) where
   kept-sum (suc (suc (suc zero))) l h = let s = weights .2 in less 32 (weigh (keptBits byte 3)) (omega arith)
   kept-sum (suc (suc (suc (suc zero)))) l h = let s = weights .3 in less 16 (weigh (keptBits byte 4)) (omega arith)
   kept-sum (suc (suc (suc (suc (suc zero))))) l h = let s = weights .4 in less 8 (weigh (keptBits byte 5)) (omega arith)
-  kept-sum (suc (suc (suc (suc (suc (suc zero)))))) l h = let s = weights .5 in less 4 (weigh (keptBits byte 6)) (omega arith)
+  kept-sum (suc (suc (suc (suc (suc (suc zero)))))) l h = let s = weights .5 in
+      less 4 (weigh (keptBits byte 6)) (omega arith)
   kept-sum (suc (suc (suc (suc (suc (suc (suc zero))))))) l h = let s = weights .6 in
       less 2 (weigh (keptBits byte 7)) (omega arith)
   kept-sum (suc (suc (suc (suc (suc (suc (suc (suc zero)))))))) l h = let s = weights .7 in
@@ -85,7 +93,8 @@ module _ (byte : ℕ) (small : byte < 256) where
   kept-sum (suc (suc (suc (suc (suc (suc (suc (suc (suc k))))))))) l h = absurd (omega arith)
 
 -- a byte of the packed sheet is that of the raster, without the bits beyond the frame
-module _ (width : ℕ) (raster : List ℕ) (row k kept : ℕ) (in-row : k < rowBytes width) (bits : kept ≡ min (width - k * 8) 8) where
+module _ (width : ℕ) (raster : List ℕ) (row k kept : ℕ) (in-row : k < rowBytes width)
+    (bits : kept ≡ min (width - k * 8) 8) where
   bit-kept : (byte : ℕ) → byte ≡ getD raster (row * rowBytes width + k) 0 → (i : ℕ) → i < 8
       → cond (ltb (k * 8 + i) width) (pixel width raster row (k * 8 + i)) 0 ≡ keptBits byte kept i
   unfolding pixel

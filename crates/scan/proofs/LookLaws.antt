@@ -67,9 +67,6 @@ pub earlier : (width row col row′ col′ : ℕ) → Precedes row col row′ co
 earlier width row col row′ col′ (inl a) b = let c : suc row * width ≤ row′ * width = mul-le-mul-right width a in omega arith
 earlier width row col row′ col′ (inr (e, a)) b = let c = ap (λ r. r * width) e in omega arith
 
-pub place-in : (width height row col : ℕ) → row < height → col < width → row * width + col < height * width
-place-in = entry-below
-
 entries-apart : (width row col row′ col′ : ℕ) → col < width → col′ < width → spot row col ≢ spot row′ col′
     → row * width + col ≢ row′ * width + col′
 entries-apart width row col row′ col′ a b n e =
