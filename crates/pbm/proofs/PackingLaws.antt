@@ -1,7 +1,5 @@
--- A row's bytes are copied as they are, all but the last, whose padding bits are taken off as a remainder. A byte is
--- the sum of
--- its bits by their weights, so without its lowest bits it is the sum of the others: omega shows it for each of the
--- eight numbers
+-- A row's bytes are copied as they are, all but the last, whose padding bits are taken off as a remainder. A byte is the sum of
+-- its bits by their weights, so without its lowest bits it is the sum of the others: omega shows it for each of the eight numbers
 -- of bits that a last byte can keep.
 use Prim.Native.Nat.{ℕ, zero, suc, _+_, _-_, _*_, _/_, _%_, _^_, _≤_, _<_, min}
 use native.Mathlib.Nat.{div-div-eq-div-mul, div-add-mod}
@@ -15,36 +13,16 @@ use lib.ListN.{length, getD}
 use borrow.Author.Tests.{lt-ltb, le-ltb}
 use Rattle.sheet.specs.Sheets.{rowBytes, bit, pixel, packedByte}
 use Rattle.sheet.specs.SamePixels.{SamePixels}
+use Rattle.sheet.proofs.ByteLaws.{weigh, packed-weigh}
 use Rattle.sheet.proofs.PixelLaws.{length-packed}
 use Rattle.sheet.proofs.SamePixelsLaws.{same-packed, clearing-keeps}
 use Rattle.pbm.specs.Pbm.{cleared}
-
--- eight bits by their weights
-abbrev weigh : (ℕ → ℕ) → ℕ
-weigh at = 128 * at 0 + 64 * at 1 + 32 * at 2 + 16 * at 3 + 8 * at 4 + 4 * at 5 + 2 * at 6 + at 7
-
-packed-weigh : (width : ℕ) (pixels : ℕ → ℕ) (k : ℕ) (at : ℕ → ℕ)
-    → ((i : ℕ) → i < 8 → cond (ltb (k * 8 + i) width) (pixels (k * 8 + i)) 0 ≡ at i)
-    → packedByte width pixels k ≡ weigh at
-unfolding packedByte
-packed-weigh width pixels k at e =
-    rw (
-      e 0 (omega arith),
-      e 1 (omega arith),
-      e 2 (omega arith),
-      e 3 (omega arith),
-      e 4 (omega arith),
-      e 5 (omega arith),
-      e 6 (omega arith),
-      e 7 (omega arith),
-    )
 
 -- the bits of a byte that are below `kept`
 abbrev keptBits : ℕ → ℕ → ℕ → ℕ
 keptBits byte kept i = cond (ltb i kept) (bit byte i) 0
 
--- eight halves in a row, each twice the next and a bit: without its lowest bits, a number is the sum of the others by
--- their
+-- eight halves in a row, each twice the next and a bit: without its lowest bits, a number is the sum of the others by their
 -- weights
 abbrev Sums : (n h₁ h₂ h₃ h₄ h₅ h₆ h₇ a b c d e f g h : ℕ) → Type 0
 Sums n h₁ h₂ h₃ h₄ h₅ h₆ h₇ a b c d e f g h =

@@ -1,8 +1,7 @@
 -- What the tests on one number decide: a pixel or a kind that is 1, a level within a limit, a level that is held.
-use Prim.Native.Nat.{ℕ, _*_, _≤_, _<_}
-use native.Mathlib.Nat.{mul-zero, mul-one}
+use Prim.Native.Nat.{ℕ, _≤_, _<_}
 use native.Mathlib.Omega.{arith}
-use mathlib.Core.Path.{_≡_, refl, sym, ap, _∙_}
+use mathlib.Core.Path.{_≡_, refl}
 use mathlib.Core.Bool.{Bool, true, false, cond, _&&_, _||_}
 use mathlib.Core.Logic.{_≢_}
 use lib.Dec.{eqb, leb, ltb}
@@ -37,6 +36,10 @@ module _ (limit level : ℕ) where
   unfolding limitedTo
   limited-cut small l = rw (ne-eqb limit none (λ e. omega arith), lt-leb level limit l)
 
+pub no-limit : (level : ℕ) → limitedTo none level ≡ level
+unfolding limitedTo
+no-limit level = refl
+
 module _ (low high level : ℕ) where
   pub held-low : level ≤ low → 0 ≡ heldBetween low high level
   unfolding heldBetween
@@ -65,11 +68,3 @@ module _ (low high level : ℕ) where
       go : (t : Bool) → cond t 1 0 ≤ 1
       go true = omega arith
       go false = omega arith
-
--- a weight counts where its bit is 1
-module _ (some : ℕ) {bit held : ℕ} (is : bit ≡ held) where
-  pub counts-none : bit ≡ 0 → 0 ≡ some * held
-  counts-none z = sym (mul-zero some) ∙ ap (λ n. some * n) (sym z ∙ is)
-
-  pub counts-one : bit ≢ 0 → held ≤ 1 → some ≡ some * held
-  counts-one n l = sym (mul-one some) ∙ ap (λ n. some * n) (let e : 1 ≡ held = omega arith in e)

@@ -3,9 +3,8 @@
 -- Each is shown entry by entry.
 use Prim.Native.Nat.{ℕ, _+_, _-_, _*_, _/_, _%_, _≤_, _<_}
 use native.Mathlib.Nat.{zero-add, zero-mul, add-mul, one-mul, suc-mul, mul-le-mul, mul-le-mul-right}
-use native.Mathlib.Decide.{decLt, ℕ-discrete}
+use native.Mathlib.Decide.{decLt}
 use native.Mathlib.Omega.{arith}
-use mathlib.Core.Logic.{_≢_}
 use mathlib.Core.List.{List}
 use mathlib.Core.Path.{_≡_, refl, sym, ap, ap₂, _∙_, fun-ext}
 use lib.ListN.{length, getD, set, length-set}
@@ -45,26 +44,6 @@ module _ {at n : ℕ} {f : ℕ → ℕ} {buffer after : List ℕ} (P : Patch at 
           let long = P .size in
           ap (λ j. getD (set after (at + n) v) (at + j) 0) q ∙ getD-set-same after (at + n) v 0 (omega arith) ∙ is ∙ ap f (sym q)
 
-  -- a store inside the stretch
-  pub patch-store : (g : ℕ → ℕ) (j v : ℕ) → at + n ≤ length buffer → j < n → v ≡ g j → ((i : ℕ) → i ≢ j → f i ≡ g i)
-      → Patch at n g buffer (set after (at + j) v)
-  patch-store g j v room l is same =
-      let long = P .size in
-      let other : (k : ℕ) → (k ≡ at + j → ⊥)
-      → getD (set after (at + j) v) k 0 ≡ getD after k 0 = λ k h. getD-set-other after (at + j) k v 0 h in
-      record {
-        size = length-set after (at + j) v ∙ long;
-        inside = λ i h. go i h (ℕ-discrete i j);
-        earlier = λ k h. other k (λ q. omega arith) ∙ P .earlier k h;
-        later = λ k h. other k (λ q. omega arith) ∙ P .later k h;
-      }
-    where
-      go : (i : ℕ) → i < n → Dec (i ≡ j) → getD (set after (at + j) v) (at + i) 0 ≡ g i
-      go i h (yes q) =
-          let long = P .size in
-          ap (λ k. getD (set after (at + j) v) (at + k) 0) q ∙ getD-set-same after (at + j) v 0 (omega arith) ∙ is ∙ ap g (sym q)
-      go i h (no q) = getD-set-other after (at + j) (at + i) v 0 (λ e. q (omega arith)) ∙ P .inside i h ∙ same i q
-
   -- the end of such a loop
   pub patch-all : (m : ℕ) → n ≡ m → Patch at m f buffer after
   patch-all m e = rw (← e) P
@@ -89,19 +68,6 @@ module _ {at n : ℕ} {f : ℕ → ℕ} {buffer after : List ℕ} (P : Patch at 
   -- the same entries by another rule
   pub patch-as : (g : ℕ → ℕ) → ((i : ℕ) → i < n → f i ≡ g i) → Patch at n g buffer after
   patch-as g same = record { size = P .size; inside = λ i l. P .inside i l ∙ same i l; earlier = P .earlier; later = P .later }
-
-  -- what is there already
-  pub patch-keep : (g : ℕ → ℕ) → ((i : ℕ) → i < n → f i ≡ g i) → Patch at n g after after
-  patch-keep g same = record { size = refl; inside = λ i l. P .inside i l ∙ same i l; earlier = λ k l. refl; later = λ k l. refl }
-
-  -- the same stretch once more
-  pub patch-over : {g : ℕ → ℕ} {last : List ℕ} → Patch at n g after last → Patch at n g buffer last
-  patch-over Q = record {
-    size = Q .size ∙ P .size;
-    inside = Q .inside;
-    earlier = λ k l. Q .earlier k l ∙ P .earlier k l;
-    later = λ k l. Q .later k l ∙ P .later k l;
-  }
 
 -- the rows above `row` of a raster are filled
 pub record Rows (width : ℕ) (f : ℕ → ℕ → ℕ) (row : ℕ) (buffer after : List ℕ) : Type 0 where

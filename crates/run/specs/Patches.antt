@@ -1,5 +1,5 @@
 -- What the functions that fill a buffer by stretches say of it, and of the levels that they read.
-use Prim.Native.Nat.{ℕ, _+_, _*_, _/_, _^_, _≤_, _<_}
+use Prim.Native.Nat.{ℕ, _+_, _*_, _≤_, _<_}
 use mathlib.Core.Path.{_≡_}
 use mathlib.Core.Bool.{cond, _&&_, _||_}
 use mathlib.Core.List.{List}
@@ -33,7 +33,3 @@ limitedTo limit level = cond (eqb limit none || leb level limit) level 0
 -- 1 where a level is above low and at most high, else 0; 65,535 as high limits nothing
 unfoldable pub heldBetween : ℕ → ℕ → ℕ → ℕ
 heldBetween low high level = cond ((eqb high none || leb level high) && ltb low level) 1 0
-
--- what the bit of a column counts in its byte, by its place from the highest
-abbrev pub weight : ℕ → ℕ
-weight i = 128 / 2 ^ i

@@ -4,14 +4,14 @@ use super::kinds;
 use super::records;
 ghost use mathlib.Core.Path.{_≡_};
 ghost use mathlib.Core.Bool.{false};
-ghost use Prim.Native.Nat.{_+_, _*_, _%_, _≤_};
+ghost use Prim.Native.Nat.{_+_, _*_, _/_, _≤_};
 ghost use lib.ListN.{length, getD};
 ghost use Rattle.basics.specs.Limits.{longestSide};
 ghost use Rattle.basics.specs.Refusals.{first};
 ghost use Rattle.basics.specs.Tables.{raster};
 ghost use Rattle.sheet.specs.Sheets.{rowBytes, packedByte, packed};
 ghost use Rattle.run.specs.Records.{recordBad};
-ghost use Rattle.run.specs.Patches.{Patch, Canvas, levelIn, limitedTo, heldBetween, weight};
+ghost use Rattle.run.specs.Patches.{Patch, Canvas, levelIn, limitedTo, heldBetween};
 ghost use Rattle.run.specs.Pictures.{releaseRefusals, Collects, Thresholds};
 
 // The level, or 0 where it is above the limit.
@@ -116,26 +116,35 @@ pub fn held(level: u16, low: u16, high: u16) -> u8
     1
 }
 
-// What a column adds to its byte: its bit's weight where its level is held.
-fn held_weight(level: u16, low: u16, high: u16, col: usize) -> u8
-    ensures { λ r. ⌜ r ≡ weight (col % 8) * heldBetween low high level ⌝ }
+// The byte of the eight levels from `from` on: a bit for each, 1 where it is held.
+fn full_byte(levels: &[u16], from: usize, low: u16, high: u16) -> u8
+    requires { ⌜ from + 8 ≤ length (now levels) ⌝ }
+    ensures { λ r. ⌜ r ≡ packedByte 8 (λ i. heldBetween low high (getD (now (levels .entry)) (from + i) 0)) 0 ⌝ }
 {
-    if held(level, low, high) == 0 {
-        return 0;
-    }
-    128 >> (col % 8)
-}
-
-// The `n` bytes from `at` on become 0.
-fn clear(out: &mut [u8], at: usize, n: usize)
-    requires { ⌜ at + n ≤ length (now out) ⌝ }
-    ensures { λ _. ⌜ Patch at n (λ _. 0) (now (out .entry)) (now (out .exit)) ⌝ }
-{
+    let mut byte = 0;
     let mut i = 0;
-    while i < n {
-        out[at + i] = 0;
+    while i < 8 {
+        byte = 2 * byte + held(levels[from + i], low, high);
         i += 1;
     }
+    byte
+}
+
+// The byte in which a row ends: level 0, which is never held, stands in the padding's place.
+fn last_byte(levels: &[u16], from: usize, width: usize, low: u16, high: u16) -> u8
+    requires { ⌜ from + width ≤ length (now levels) ⌝ }
+    ensures { λ r. ⌜ r ≡ packedByte width (λ col. heldBetween low high (getD (now (levels .entry)) (from + col) 0)) (width / 8) ⌝ }
+{
+    let mut eight = [0u16; 8];
+    copy_row(
+        levels,
+        from + width / 8 * 8,
+        width % 8,
+        row::NONE,
+        &mut eight,
+        0,
+    );
+    full_byte(&eight, 0, low, high)
 }
 
 // The bytes from `at` on become the packed row of the levels from `from` on.
@@ -153,13 +162,16 @@ fn pack_row(
         (packedByte width (λ col. heldBetween low high (getD (now (levels .entry)) (from + col) 0))) (now (out .entry))
         (now (out .exit)) ⌝ }
 {
-    clear(out, at, sheet::row_bytes(width));
-    let mut col = 0;
-    while col < width {
-        let more = held_weight(levels[from + col], low, high, col);
-        let byte = out[at + col / 8];
-        out[at + col / 8] = byte + more;
-        col += 1;
+    let full = width / 8;
+    let mut k = 0;
+    while k < full {
+        let byte = full_byte(levels, from + k * 8, low, high);
+        out[at + k] = byte;
+        k += 1;
+    }
+    if width % 8 != 0 {
+        let byte = last_byte(levels, from, width, low, high);
+        out[at + full] = byte;
     }
 }
 

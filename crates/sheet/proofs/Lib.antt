@@ -1,3 +1,4 @@
+pub mod ByteLaws
 pub mod FrameLaws
 pub mod PixelLaws
 pub mod SamePixelsLaws

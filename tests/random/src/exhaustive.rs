@@ -1,5 +1,5 @@
-//! Everything there is on a small scale: all sheets of a few points with all elements of side 3, and all changes of one
-//! byte in the header of a file.
+//! Everything there is on a small scale: all sheets of a few points with all elements of side 3, all changes of one byte
+//! in the header of a file, and all columns of rows of up to five bytes.
 
 use crate::call::{Call, Field, Name};
 use crate::check::{check, check_run};
@@ -82,5 +82,38 @@ fn reading(file: Vec<u8>) -> Call {
     // Room for any sheet that so short a file can hold.
     call.set_length(Field::BytesOut, 32);
     call.set_length(Field::WordsOut, 2);
+    call
+}
+
+/// Every width up to five bytes, where each column in turn is the only one held, or the only one not held, by runs of
+/// both kinds; what the lent sheet holds beforehand is all zeros or all ones.
+pub fn check_columns(tally: &mut Tally) {
+    for width in 1..=33 {
+        for column in 0..width {
+            for (held, fill) in [(false, 0), (false, 255), (true, 0), (true, 255)] {
+                for cap in [None, Some(1)] {
+                    check(tally, &one_column(width, column, held, cap, fill));
+                }
+            }
+        }
+    }
+}
+
+/// A threshold of one row, at the cap of a dilation or at 0. Levels around a dilation's frame are as the other columns'.
+fn one_column(width: u64, column: u64, held: bool, cap: Option<u64>, fill: u8) -> Call {
+    let mut call = Call::new(Name::Threshold);
+    let kind = if cap.is_some() { 2 } else { 1 };
+    let margin = cap.unwrap_or(0);
+    call.record = vec![kind, width, 1, margin, 3, 2 * (1 + 2 * margin)];
+    let mut cells = [0; 49];
+    (cells[24], cells[25]) = (1, 1);
+    call.record.extend(cells);
+    call.number = margin;
+    lend_due_lengths(&mut call);
+    let level = |held| u16::try_from(if held { margin + 1 } else { 0 }).expect("2 at most");
+    let place = margin * (width + 2 * margin) + margin + column;
+    call.levels.fill(level(!held));
+    call.levels[usize::try_from(place).expect("a short row")] = level(held);
+    call.bytes_out.fill(fill);
     call
 }

@@ -109,6 +109,7 @@ fn main() -> ExitCode {
     cases::check_cases(&mut tally);
     exhaustive::check_small_sheets(&mut tally);
     exhaustive::check_headers(&mut tally);
+    exhaustive::check_columns(&mut tally);
     for round in 0..options.rounds {
         // Every round has dice of its own, so that a change of one round leaves the others as they are.
         let mut dice = Dice::new(

@@ -1,67 +1,53 @@
--- The loop's invariant: the row's bytes are those of the first columns alone, packed. A column adds its bit's weight to its byte,
--- which stays below 256.
-use Rattle.run.specs.Patches.{heldBetween}
-use Rattle.run.proofs.LevelLaws.{held-binary}
-use Rattle.run.proofs.PackLaws.{Packing, packing-start, packing-place, packing-fits, packing-turn, packing-end}
+-- The loop's invariant: the row's first bytes are stored. Where the row ends within a byte, one more is.
+use Rattle.sheet.specs.Sheets.{rowBytes, packedByte}
+use Rattle.run.specs.Patches.{Patch}
+use Rattle.run.proofs.PatchLaws.{patch-none, patch-turn, patch-all}
+use Rattle.run.proofs.PackLaws.{heldFrom, full-of}
 use borrow.Author.Needs.{needs}
 use native.Mathlib.Omega.{arith}
-use Prim.Native.Nat.{_+_, _-_}
-use mathlib.Core.Path.{_∙_}
-use lib.ListN.{getD}
+use Prim.Native.Nat.{_-_, _/_, _≤_}
 use Rattle.run.proofs.pictures.pack_row.Statement.{statement}
 use Rattle.run.proofs.pictures.pack_row.Tie as tie
 
 abbrev Inv-loop : tie.InvT-loop
-Inv-loop levels from width low high out₀ at col₀ out col =
-    Packing at width (λ j. heldBetween low high (getD levels (from + j) 0)) col out₀ out
+Inv-loop levels from width low high out₀ at full k₀ out k =
+    (k ≤ width / 8) × Patch at k (packedByte width (heldFrom low high levels from)) out₀ out
 
 abbrev μ-loop : tie.MeasureT-loop
-μ-loop levels from width low high out₀ at col₀ out col = width - col
+μ-loop levels from width low high out₀ at full k₀ out k = width / 8 - k
 
 loop-holds : tie.Need-loop-holds Inv-loop μ-loop
-loop-holds c =
-    let start = c .before .before .before .before .before .before .before in
-    packing-start (start .args .width) (c .before .before .clear .ensures) (c .before .before .before .row-bytes .ensures)
-    (start .pre .1 .1)
-
-slice-read-byte : tie.Need-slice-read-byte Inv-loop μ-loop
-slice-read-byte c = packing-place (c .before .before .before .before .loop .inv) (c .before .before .before .loop-test .taken)
-
-add-out : tie.Need-add-out Inv-loop μ-loop
-add-out c =
-    let args = c .before .before .before .before .before .before .before .before .before .before .before .before .args in
-    let loop = c .before .before .before .before .loop in
-    let loop-test = c .before .before .before .loop-test in
-    let held-weight = c .before .held-weight in
-    let s = packing-fits (loop .inv) (loop-test .taken) (held-weight .result) (held-weight .ensures)
-    (λ col. held-binary (args .low) (args .high) (getD (args .levels .now) (args .from + col) 0)) in
-    omega arith
+loop-holds c = (omega arith, patch-none _ _ _)
 
 slice-write-out : tie.Need-slice-write-out Inv-loop μ-loop
-slice-write-out c = packing-place (c .before .before .before .before .loop .inv) (c .before .before .before .loop-test .taken)
-
-loop-less : tie.Need-loop-less Inv-loop μ-loop
-loop-less c = omega arith
+slice-write-out c = let s = c .before .before .loop .inv .1 .size in omega arith
 
 loop-again : tie.Need-loop-again Inv-loop μ-loop
 loop-again c =
-    let loop = c .before .before .before .before .loop in
-    let loop-test = c .before .before .before .loop-test in
-    let held-weight = c .before .held-weight in
-    packing-turn (loop .inv) (loop-test .taken) (held-weight .result) (held-weight .ensures)
+    let args = c .before .before .before .before .before .args in
+    let loop = c .before .before .loop in
+    let full-byte = c .full-byte in (
+      omega arith,
+      patch-turn (loop .inv .1) (full-byte .result) (omega arith)
+          (full-of (args .low) (args .high) (args .levels .now) (args .from) (args .width) (loop .k) (omega arith) (full-byte .ensures)),
+    )
 
-same-length : tie.Need-same-length Inv-loop μ-loop
-same-length c = c .before .loop .inv .bytes .size ∙ c .before .before .before .before .clear .ensures .size
+slice-write-out-2 : tie.Need-slice-write-out-2 Inv-loop μ-loop
+slice-write-out-2 c = let s = c .before .before .before .loop .inv .1 .size in omega arith
 
 returns : tie.Need-returns Inv-loop μ-loop
 returns c =
-    let row-bytes = c .before .before .before .before .before .row-bytes in
-    let clear = c .before .before .before .before .clear in
-    packing-end (c .before .before .before .before .before .before .before .before .before .args .width) (clear .ensures)
-    (row-bytes .ensures) (c .before .loop .inv) (c .loop-test .left)
+    let args = c .before .before .before .before .before .before .args in
+    let full = patch-all (c .before .before .before .loop .inv .1) (args .width / 8) (omega arith) in
+    patch-all (patch-turn full (c .last-byte .result) (omega arith) (c .last-byte .ensures)) (rowBytes (args .width)) (omega arith)
+
+returns-2 : tie.Need-returns-2 Inv-loop μ-loop
+returns-2 c =
+    let args = c .before .before .before .before .before .args in
+    patch-all (c .before .before .loop .inv .1) (rowBytes (args .width)) (omega arith)
 
 pub pack-row-spec : {M : Type 1} → statement M
 pack-row-spec =
-    tie.close (tie.spec Inv-loop μ-loop (λ c κs. search needs) (λ c κs. search needs) loop-holds (λ c. search needs)
-    (λ c. search needs) (λ c. search needs) (λ c κs. search needs) (λ c. search needs) slice-read-byte add-out
-    (λ c. search needs) slice-write-out (λ c. search needs) loop-less loop-again same-length returns)
+    tie.close (tie.spec Inv-loop μ-loop loop-holds (λ c. search needs) (λ c. search needs) (λ c κs. search needs)
+    (λ c. search needs) slice-write-out (λ c. search needs) (λ c. search needs) loop-again (λ c κs. search needs)
+    (λ c. search needs) slice-write-out-2 (λ c. search needs) returns (λ c. search needs) returns-2)
