@@ -1,4 +1,4 @@
-//! Compiles the C scans, and the shims over OpenCV and leptonica where these are installed; where they are not, the shims say so. The
+//! Compiles the C, and the shims over OpenCV and leptonica where these are installed; where they are not, the shims say so. The
 //! crate `walugtirim` brings the verified library.
 
 use std::env;
@@ -14,7 +14,7 @@ fn main() {
     println!("cargo:rerun-if-env-changed=CXX");
     let c = env::var("CC").unwrap_or_else(|_| "cc".to_string());
     let cxx = env::var("CXX").unwrap_or_else(|_| "c++".to_string());
-    for name in ["plain", "tuned", "clock"] {
+    for name in ["plain", "tuned", "pictures", "clock"] {
         assert!(
             compile(&c, &format!("{name}.c"), &format!("bench_{name}"), &[]),
             "can't compile c/{name}.c"

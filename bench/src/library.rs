@@ -10,21 +10,32 @@ fn accepted<T>(answer: Result<T, Refusal>) -> T {
 }
 
 /// Starts an erosion and works all its rows.
-pub fn erosion(sheet: &Sheet, element: &Element, levels: &mut [u16]) {
-    let mut record = accepted(lent::start_erosion(sheet.given(element), levels));
-    work(&mut record, levels);
+pub fn erosion(sheet: &Sheet, element: &Element, levels: &mut [u16]) -> Record {
+    let record = accepted(lent::start_erosion(sheet.given(element), levels));
+    finished(record, levels)
 }
 
 /// Starts a dilation and works all its rows.
-pub fn dilation(sheet: &Sheet, element: &Element, cap: usize, levels: &mut [u16]) {
+pub fn dilation(sheet: &Sheet, element: &Element, cap: usize, levels: &mut [u16]) -> Record {
     let given = sheet.given(element);
-    let mut record = accepted(lent::start_dilation(given, cap as u64, levels));
-    work(&mut record, levels);
+    let record = accepted(lent::start_dilation(given, cap as u64, levels));
+    finished(record, levels)
 }
 
-fn work(record: &mut Record, levels: &mut [u16]) {
-    let done = accepted(lent::continue_run(record, levels, MOST_ALLOWANCE));
+fn finished(mut record: Record, levels: &mut [u16]) -> Record {
+    let done = accepted(lent::continue_run(&mut record, levels, MOST_ALLOWANCE));
     assert!(done, "all rows are worked in one slice");
+    record
+}
+
+/// The sheet that a finished run holds at a size.
+pub fn threshold(record: &Record, levels: &[u16], size: usize, out: &mut [u8]) {
+    accepted(lent::threshold(record, levels, size as u64, out));
+}
+
+/// The levels of a finished run.
+pub fn collect(record: &Record, levels: &[u16], out: &mut [u16]) {
+    accepted(lent::collect(record, levels, out));
 }
 
 /// Opens or closes by one size.

@@ -5,6 +5,7 @@
 //! Each works in one thread, turn by turn, so that a slow moment of the machine meets all of them; medians of the
 //! processor time are given, and how far wall time lies above it. Buffers are allocated and touched beforehand. A run
 //! of the library is its start and all its rows; a run of a scan in C is the same unpacking, done here, and the scan.
+//! Pictures are taken of a run that the library finished beforehand, by all of them from its levels.
 //! OpenCV and leptonica are given pictures in their own layout, made beforehand, and answer in theirs.
 #![deny(unsafe_code)]
 
@@ -15,7 +16,9 @@ mod sheets;
 use std::hint::black_box;
 use std::time::Instant;
 
-use raw::{Leptonica, Scan};
+use walugtirim::lent::Record;
+
+use raw::{Frame, Leptonica, Way};
 use sheets::{elements, Content, Element, Sheet};
 
 /// The size that sheets are opened and closed by, and the cap of dilations.
@@ -143,31 +146,12 @@ fn unpack(sheet: &Sheet, margin: usize, on: u16, off: u16, levels: &mut [u16]) {
     }
 }
 
-/// Packs the points of the frame whose level lies in a range.
-fn pack(
-    sheet: &Sheet,
-    margin: usize,
-    levels: &[u16],
-    range: std::ops::RangeInclusive<u16>,
-) -> Vec<u8> {
-    let width = sheet.width + 2 * margin;
-    let mut out = vec![0; sheet.bytes.len()];
-    for (y, row) in out.chunks_mut(sheet.width.div_ceil(8)).enumerate() {
-        for x in 0..sheet.width {
-            if range.contains(&levels[(y + margin) * width + margin + x]) {
-                row[x / 8] |= 0x80 >> (x % 8);
-            }
-        }
-    }
-    out
-}
-
-fn erosion_by(which: Scan, sheet: &Sheet, element: &Element, levels: &mut [u16]) {
+fn erosion_by(which: Way, sheet: &Sheet, element: &Element, levels: &mut [u16]) {
     unpack(sheet, 0, u16::MAX, 0, levels);
     raw::scan(which, levels, sheet.width, sheet.height, element, false);
 }
 
-fn dilation_by(which: Scan, sheet: &Sheet, element: &Element, cap: usize, levels: &mut [u16]) {
+fn dilation_by(which: Way, sheet: &Sheet, element: &Element, cap: usize, levels: &mut [u16]) {
     let margin = cap * element.reach();
     unpack(sheet, margin, 1, u16::MAX, levels);
     let (width, height) = (sheet.width + 2 * margin, sheet.height + 2 * margin);
@@ -176,15 +160,17 @@ fn dilation_by(which: Scan, sheet: &Sheet, element: &Element, cap: usize, levels
 
 /// Opens or closes with a scan in C, in the way that two work buffers allow: one scan, its threshold, another scan.
 fn filter_by(
-    which: Scan,
+    which: Way,
     closing: bool,
     sheet: &Sheet,
     element: &Element,
     work: &mut [Vec<u16>; 2],
-) -> Vec<u8> {
+    out: &mut [u8],
+) {
     let size = u16::try_from(SIZE).expect("a small size");
     let margin = if closing { SIZE * element.reach() } else { 0 };
     let (width, height) = (sheet.width + 2 * margin, sheet.height + 2 * margin);
+    let frame = sheet.within(margin);
     let [a, b] = work;
     if closing {
         dilation_by(which, sheet, element, SIZE, a);
@@ -192,20 +178,20 @@ fn filter_by(
             *to = if *from <= size + 1 { u16::MAX } else { 0 };
         }
         raw::scan(which, b, width, height, element, false);
-        pack(sheet, margin, b, size + 1..=u16::MAX)
+        raw::pack(which, b, frame, size, u16::MAX, out);
     } else {
         erosion_by(which, sheet, element, a);
         for (from, to) in a.iter().zip(b.iter_mut()) {
             *to = if *from > size { 1 } else { u16::MAX };
         }
         raw::scan(which, b, width, height, element, true);
-        pack(sheet, margin, b, 1..=size + 1)
+        raw::pack(which, b, frame, 0, size + 1, out);
     }
 }
 
 /// The opening transform with a scan in C: a scan for the erosion, and one for every size up to its largest level.
 fn opening_levels_by(
-    which: Scan,
+    which: Way,
     sheet: &Sheet,
     element: &Element,
     work: &mut [Vec<u16>; 2],
@@ -260,12 +246,14 @@ fn bench_erosion(options: &Options, element: &Element, content: Content) -> Row 
 
     let [ours, plain, tuned] = &mut levels;
     let mut runners = vec![
-        runner("library", || library::erosion(&sheet, element, ours)),
+        runner("library", || {
+            library::erosion(&sheet, element, ours);
+        }),
         runner("plain C", || {
-            erosion_by(Scan::Plain, &sheet, element, plain);
+            erosion_by(Way::Plain, &sheet, element, plain);
         }),
         runner("tuned C", || {
-            erosion_by(Scan::Tuned, &sheet, element, tuned);
+            erosion_by(Way::Tuned, &sheet, element, tuned);
         }),
     ];
     if has_opencv {
@@ -309,12 +297,14 @@ fn bench_dilation(options: &Options, element: &Element, content: Content) -> Row
     let mut levels = [vec![0; points], vec![0; points], vec![0; points]];
     let [ours, plain, tuned] = &mut levels;
     let runners = vec![
-        runner("library", || library::dilation(&sheet, element, SIZE, ours)),
+        runner("library", || {
+            library::dilation(&sheet, element, SIZE, ours);
+        }),
         runner("plain C", || {
-            dilation_by(Scan::Plain, &sheet, element, SIZE, plain);
+            dilation_by(Way::Plain, &sheet, element, SIZE, plain);
         }),
         runner("tuned C", || {
-            dilation_by(Scan::Tuned, &sheet, element, SIZE, tuned);
+            dilation_by(Way::Tuned, &sheet, element, SIZE, tuned);
         }),
     ];
     let title = format!(
@@ -339,17 +329,18 @@ fn bench_filter(options: &Options, element: &Element, content: Content, closing:
     let mut work = [vec![0; points], vec![0; points]];
     let mut work_plain = [vec![0; points], vec![0; points]];
     let mut work_tuned = [vec![0; points], vec![0; points]];
-    let mut ours = vec![0; sheet.bytes.len()];
-    let (mut plain, mut tuned) = (Vec::new(), Vec::new());
+    let bytes = sheet.bytes.len();
+    let mut out = [vec![0; bytes], vec![0; bytes], vec![0; bytes]];
+    let [ours, plain, tuned] = &mut out;
     let runners = vec![
         runner("library", || {
-            library::filter(closing, &sheet, element, SIZE, &mut work, &mut ours);
+            library::filter(closing, &sheet, element, SIZE, &mut work, ours);
         }),
         runner("plain C", || {
-            plain = filter_by(Scan::Plain, closing, &sheet, element, &mut work_plain);
+            filter_by(Way::Plain, closing, &sheet, element, &mut work_plain, plain);
         }),
         runner("tuned C", || {
-            tuned = filter_by(Scan::Tuned, closing, &sheet, element, &mut work_tuned);
+            filter_by(Way::Tuned, closing, &sheet, element, &mut work_tuned, tuned);
         }),
     ];
     let title = format!(
@@ -359,8 +350,8 @@ fn bench_filter(options: &Options, element: &Element, content: Content, closing:
         content.name()
     );
     let row = report(title, time(side * side, options.repeats, runners));
-    compare("plain C", &ours, &plain);
-    compare("tuned C", &ours, &tuned);
+    compare("plain C", &out[0], &out[1]);
+    compare("tuned C", &out[0], &out[2]);
     row
 }
 
@@ -379,10 +370,10 @@ fn bench_opening_levels(options: &Options, element: &Element) -> Row {
             library::opening_levels(&sheet, element, &mut work, ours);
         }),
         runner("plain C", || {
-            opening_levels_by(Scan::Plain, &sheet, element, &mut work_plain, plain);
+            opening_levels_by(Way::Plain, &sheet, element, &mut work_plain, plain);
         }),
         runner("tuned C", || {
-            opening_levels_by(Scan::Tuned, &sheet, element, &mut work_tuned, tuned);
+            opening_levels_by(Way::Tuned, &sheet, element, &mut work_tuned, tuned);
         }),
     ];
     let title = format!(
@@ -396,6 +387,95 @@ fn bench_opening_levels(options: &Options, element: &Element) -> Row {
     );
     compare("plain C", &out[0], &out[1]);
     compare("tuned C", &out[0], &out[2]);
+    row
+}
+
+/// A finished run of the library, by the cross, and how its frame lies in its levels.
+struct Finished {
+    kind: &'static str,
+    sheet: String,
+    record: Record,
+    levels: Vec<u16>,
+    frame: Frame,
+    dilation: bool,
+}
+
+impl Finished {
+    fn new(options: &Options, content: Content, dilation: bool) -> Finished {
+        let [cross, ..] = elements();
+        let margin = if dilation { SIZE * cross.reach() } else { 0 };
+        let side = options.side - 2 * margin;
+        let sheet = content.sheet(side, side);
+        let mut levels = vec![0; options.side * options.side];
+        let record = if dilation {
+            library::dilation(&sheet, &cross, SIZE, &mut levels)
+        } else {
+            library::erosion(&sheet, &cross, &mut levels)
+        };
+        Finished {
+            kind: if dilation { "a dilation" } else { "an erosion" },
+            sheet: format!("{} {side} by {side}", content.name()),
+            record,
+            levels,
+            frame: sheet.within(margin),
+            dilation,
+        }
+    }
+
+    /// The same number of turns takes far less time here than of whole runs, so more are taken.
+    fn time(&self, options: &Options, runners: Vec<Runner>) -> Vec<Timed> {
+        let pixels = self.frame.width * self.frame.height;
+        time(pixels, 5 * options.repeats, runners)
+    }
+}
+
+fn bench_threshold(options: &Options, run: &Finished, size: u16) -> Row {
+    let bytes = run.frame.height * run.frame.width.div_ceil(8);
+    let (low, high) = if run.dilation {
+        (0, size + 1)
+    } else {
+        (size, u16::MAX)
+    };
+    let mut out = [vec![0; bytes], vec![0; bytes], vec![0; bytes]];
+    let [ours, plain, tuned] = &mut out;
+    let runners = vec![
+        runner("library", || {
+            library::threshold(&run.record, &run.levels, usize::from(size), ours);
+        }),
+        runner("plain C", || {
+            raw::pack(Way::Plain, &run.levels, run.frame, low, high, plain);
+        }),
+        runner("tuned C", || {
+            raw::pack(Way::Tuned, &run.levels, run.frame, low, high, tuned);
+        }),
+    ];
+    let title = format!("thresholding {} at {size}, {}", run.kind, run.sheet);
+    let row = report(title, run.time(options, runners));
+    compare("plain C", &out[0], &out[1]);
+    compare("tuned C", &out[0], &out[2]);
+    row
+}
+
+fn bench_collect(options: &Options, run: &Finished) -> Row {
+    let points = run.frame.height * run.frame.width;
+    let limit = if run.dilation {
+        u16::try_from(SIZE + 1).expect("a small size")
+    } else {
+        u16::MAX
+    };
+    let mut out = [vec![0; points], vec![0; points]];
+    let [ours, plain] = &mut out;
+    let runners = vec![
+        runner("library", || {
+            library::collect(&run.record, &run.levels, ours);
+        }),
+        runner("plain C", || {
+            raw::collect(&run.levels, run.frame, limit, plain);
+        }),
+    ];
+    let title = format!("collecting {}, {}", run.kind, run.sheet);
+    let row = report(title, run.time(options, runners));
+    compare("plain C", &out[0], &out[1]);
     row
 }
 
@@ -427,7 +507,7 @@ fn bench_noise(options: &Options) {
     let [cross, ..] = elements();
     let mut levels = vec![0; side * side];
     let runners = vec![runner("tuned C", || {
-        erosion_by(Scan::Tuned, &sheet, &cross, &mut levels);
+        erosion_by(Way::Tuned, &sheet, &cross, &mut levels);
     })];
     let (wall, processor) = (Instant::now(), raw::seconds_used());
     let timed = time(side * side, 11, runners);
@@ -474,6 +554,17 @@ fn main() {
         }
     }
     rows.push(bench_opening_levels(&options, &cross));
+    for (content, dilation) in [
+        (Content::TextLike, false),
+        (Content::RandomHalf, false),
+        (Content::TextLike, true),
+    ] {
+        let run = Finished::new(&options, content, dilation);
+        for size in [10, 0] {
+            rows.push(bench_threshold(&options, &run, size));
+        }
+        rows.push(bench_collect(&options, &run));
+    }
     rows.push(bench_reading(&options));
     bench_noise(&options);
     println!();

@@ -9,6 +9,9 @@ use crate::sheets::{Element, Sheet};
 extern "C" {
     fn plain_scan(levels: *mut u16, width: usize, height: usize, cells: *const u8, dilation: c_int);
     fn tuned_scan(levels: *mut u16, width: usize, height: usize, cells: *const u8, dilation: c_int);
+    fn plain_pack(levels: *const u16, frame: Frame, low: u16, high: u16, out: *mut u8);
+    fn tuned_pack(levels: *const u16, frame: Frame, low: u16, high: u16, out: *mut u8);
+    fn plain_collect(levels: *const u16, frame: Frame, limit: u16, out: *mut u16);
     fn opencv_distance(pixels: *const u8, width: usize, height: usize, out: *mut f32, chessboard: c_int) -> c_int;
     fn leptonica_sheet(sheet: *const u8, width: usize, height: usize) -> *mut c_void;
     fn leptonica_distance(from: *mut c_void, neighbours: c_int, levels: *mut u16) -> c_int;
@@ -21,16 +24,32 @@ pub fn seconds_used() -> f64 {
     unsafe { processor_seconds() }
 }
 
-/// The scans in C.
+/// The two ways in which the work is done in C: as one would write it first, and in a shape that compilers vectorise.
 #[derive(Clone, Copy)]
-pub enum Scan {
+pub enum Way {
     Plain,
     Tuned,
 }
 
+/// A frame and the margin around it in the levels.
+#[derive(Clone, Copy)]
+#[repr(C)]
+pub struct Frame {
+    pub width: usize,
+    pub height: usize,
+    pub margin: usize,
+}
+
+impl Frame {
+    /// How many levels there are.
+    pub fn points(self) -> usize {
+        (self.width + 2 * self.margin) * (self.height + 2 * self.margin)
+    }
+}
+
 /// Works all rows on levels that are already set up.
 pub fn scan(
-    which: Scan,
+    which: Way,
     levels: &mut [u16],
     width: usize,
     height: usize,
@@ -42,8 +61,8 @@ pub fn scan(
         "the scans in C check nothing"
     );
     let call = match which {
-        Scan::Plain => plain_scan,
-        Scan::Tuned => tuned_scan,
+        Way::Plain => plain_scan,
+        Way::Tuned => tuned_scan,
     };
     unsafe {
         call(
@@ -54,6 +73,25 @@ pub fn scan(
             c_int::from(dilation),
         );
     }
+}
+
+/// Packs the points of the frame whose level is above `low` and at most `high`.
+pub fn pack(which: Way, levels: &[u16], frame: Frame, low: u16, high: u16, out: &mut [u8]) {
+    assert!(
+        levels.len() == frame.points() && out.len() == frame.height * frame.width.div_ceil(8),
+        "the packers in C check nothing"
+    );
+    let call = match which {
+        Way::Plain => plain_pack,
+        Way::Tuned => tuned_pack,
+    };
+    unsafe { call(levels.as_ptr(), frame, low, high, out.as_mut_ptr()) }
+}
+
+/// Copies the levels of the frame, with 0 for each that is above the limit.
+pub fn collect(levels: &[u16], frame: Frame, limit: u16, out: &mut [u16]) {
+    assert!(levels.len() == frame.points() && out.len() == frame.height * frame.width);
+    unsafe { plain_collect(levels.as_ptr(), frame, limit, out.as_mut_ptr()) }
 }
 
 /// OpenCV's distances from one byte a pixel; false where it is not installed.

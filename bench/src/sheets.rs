@@ -2,6 +2,8 @@
 
 use walugtirim::lent::Given;
 
+use crate::raw::Frame;
+
 /// A packed sheet with its frame.
 pub struct Sheet {
     pub width: usize,
@@ -18,6 +20,15 @@ impl Sheet {
             sheet: &self.bytes,
             side: element.side as u64,
             cells: &element.cells,
+        }
+    }
+
+    /// The frame in levels that have a margin around it.
+    pub fn within(&self, margin: usize) -> Frame {
+        Frame {
+            width: self.width,
+            height: self.height,
+            margin,
         }
     }
 }
