@@ -1,51 +1,25 @@
 -- A packed row, byte by byte: a byte is known by its eight levels, which are the row's, or, where the row ends within it, those
 -- that are left and zeros, which no bounds hold.
-use Prim.Native.Nat.{ℕ, zero, suc, _+_, _*_, _/_, _%_, _^_, _≤_, _<_}
-use native.Mathlib.Nat.{add-assoc, pow-succ', pow-le-pow-right}
+use Prim.Native.Nat.{ℕ, _+_, _*_, _/_, _%_, _≤_, _<_}
+use native.Mathlib.Nat.{add-assoc}
 use native.Mathlib.Omega.{arith}
-use mathlib.Core.Path.{_≡_, refl, sym, ap, _∙_}
+use mathlib.Core.Path.{_≡_, sym, ap, _∙_}
 use mathlib.Core.List.{List}
 use lib.ListN.{getD, replicate, getD-replicate}
 use Rattle.sheet.specs.Sheets.{packedByte}
-use Rattle.sheet.proofs.ByteLaws.{packed-eight, packed-as}
+use Rattle.sheet.proofs.ByteLaws.{packed-as, front, front-fits}
 use Rattle.row.specs.RowRule.{none}
 use Rattle.run.specs.Patches.{Patch, limitedTo, heldBetween}
-use Rattle.run.proofs.LevelLaws.{no-limit, held-low}
-
--- the first i of some bits, read as binary digits
-pub front : (ℕ → ℕ) → ℕ → ℕ
-front bits zero = 0
-front bits (suc i) = 2 * front bits i + bits i
-
-module _ (bits : ℕ → ℕ) where
-  pub front-none : 0 ≡ front bits 0
-  unfolding front
-  front-none = refl
-
-  front-next : (i : ℕ) → 2 * front bits i + bits i ≡ front bits (suc i)
-  unfolding front
-  front-next i = refl
-
-  pub front-turn : (i : ℕ) → 2 * front bits i + bits i ≡ front bits (i + 1)
-  front-turn i = front-next i ∙ ap (front bits) (let e : suc i ≡ i + 1 = omega arith in e)
-
-  -- a byte has room for one more
-  pub front-small : ((i : ℕ) → bits i ≤ 1) → (i : ℕ) → i < 8 → front bits i ≤ 127
-  front-small binary i l =
-      let s = go i in let p = pow-le-pow-right {n = 2} (omega arith) {i = i} {j = 7} (omega arith) in omega arith
-    where
-      go : (i : ℕ) → front bits i < 2 ^ i
-      go zero = let e = front-none in omega arith
-      go (suc i) = let s = go i in let e = front-next i in let b = binary i in let p = pow-succ' 2 i in omega arith
-
-  pub front-eight : front bits 8 ≡ packedByte 8 bits 0
-  unfolding front
-  front-eight = let e = packed-eight bits in omega arith
+use Rattle.run.proofs.LevelLaws.{no-limit, held-low, held-binary}
 
 module _ (low high : ℕ) where
   -- 1 or 0 for the levels from a place on, where the bounds hold them
   abbrev pub heldFrom : List ℕ → ℕ → ℕ → ℕ
   heldFrom levels from i = heldBetween low high (getD levels (from + i) 0)
+
+  -- a byte has room for one more of them
+  pub held-fits : (levels : List ℕ) (from i : ℕ) → i < 8 → 2 * front (heldFrom levels from) i + heldFrom levels from i ≤ 255
+  held-fits levels from = front-fits (heldFrom levels from) (λ k. held-binary low high (getD levels (from + k) 0))
 
   module _ (levels : List ℕ) (from width : ℕ) where
     -- a byte that the row fills

@@ -1,12 +1,10 @@
--- The loop's invariant: the first tests are in the byte, as binary digits.
-use Rattle.run.proofs.LevelLaws.{held-binary}
-use Rattle.run.proofs.PackLaws.{front, front-none, front-turn, front-small, front-eight, heldFrom}
+-- The loop's invariant: the first tests are in the byte, as a binary number.
+use Rattle.sheet.proofs.ByteLaws.{front, front-none, front-turn, front-eight}
+use Rattle.run.proofs.PackLaws.{heldFrom, held-fits}
 use borrow.Author.Needs.{needs}
 use native.Mathlib.Omega.{arith}
-use Prim.Native.Nat.{ℕ, _+_, _-_, _≤_}
+use Prim.Native.Nat.{_-_, _≤_}
 use mathlib.Core.Path.{_≡_, ap, _∙_}
-use mathlib.Core.List.{List}
-use lib.ListN.{getD}
 use Rattle.run.proofs.pictures.full_byte.Statement.{statement}
 use Rattle.run.proofs.pictures.full_byte.Tie as tie
 
@@ -16,19 +14,13 @@ Inv-loop levels from low high byte₀ i₀ byte i = (i ≤ 8) × (byte ≡ front
 abbrev μ-loop : tie.MeasureT-loop
 μ-loop levels from low high byte₀ i₀ byte i = 8 - i
 
-binary : (levels : List ℕ) (from low high k : ℕ) → heldFrom low high levels from k ≤ 1
-binary levels from low high k = held-binary low high (getD levels (from + k) 0)
-
 loop-holds : tie.Need-loop-holds Inv-loop μ-loop
 loop-holds c = (omega arith, front-none _)
 
 mul-byte : tie.Need-mul-byte Inv-loop μ-loop
 mul-byte c =
     let args = c .before .before .before .args in
-    let loop = c .before .loop in
-    let bits = heldFrom (args .low) (args .high) (args .levels .now) (args .from) in
-    let test = binary (args .levels .now) (args .from) (args .low) (args .high) in
-    let s = front-small bits test (loop .i) (c .loop-test .taken) in
+    let s = held-fits (args .low) (args .high) (args .levels .now) (args .from) (c .before .loop .i) (c .loop-test .taken) in
     omega arith
 
 add-byte : tie.Need-add-byte Inv-loop μ-loop
@@ -36,11 +28,8 @@ add-byte c =
     let args = c .before .before .before .before .before .args in
     let loop = c .before .before .before .loop in
     let loop-test = c .before .before .loop-test in
-    let bits = heldFrom (args .low) (args .high) (args .levels .now) (args .from) in
-    let test = binary (args .levels .now) (args .from) (args .low) (args .high) in
-    let s = front-small bits test (loop .i) (loop-test .taken) in
+    let s = held-fits (args .low) (args .high) (args .levels .now) (args .from) (loop .i) (loop-test .taken) in
     let e = c .held .ensures in
-    let b = test (loop .i) in
     omega arith
 
 loop-again : tie.Need-loop-again Inv-loop μ-loop
