@@ -31,7 +31,7 @@ collected-rows : (r : Record) (n : ℕ) (levels : List ℕ) → collected (withR
 unfolding collected
 collected-rows r n levels = refl
 
-thresholded-rows : (r : Record) (n : ℕ) (levels : List ℕ) (size : ℕ)
+pub thresholded-rows : (r : Record) (n : ℕ) (levels : List ℕ) (size : ℕ)
     → thresholded (withRows r n) levels size ≡ thresholded r levels size
 unfolding thresholded
 thresholded-rows r n levels size = refl
@@ -50,7 +50,7 @@ right-levels (dilation width height sheet side bytes cap lent {r = r} {levels = 
     subst₂ (λ w h. LevelsMean w h IsLevel (collected r (finished r levels))) (sym (ap (λ (t : Record). t .width) q))
     (sym (ap (λ (t : Record). t .height) q)) (dilation-picture width height sheet side bytes cap lent r levels a .0)
 
-right-sheet : {r : Record} {levels : List ℕ} (started : Started r levels) (n : ℕ) → n ≤ sizeLimit r
+pub right-sheet : {r : Record} {levels : List ℕ} (started : Started r levels) (n : ℕ) → n ≤ sizeLimit r
     → SheetMeans (r .width) (r .height) (RightSet started n) (thresholded r (finished r levels) n)
 right-sheet (erosion width height sheet side bytes lent {r = r} {levels = levels} a) n l =
     let q = ap (λ t. t .0) (a .accepted refl) in

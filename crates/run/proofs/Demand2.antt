@@ -64,7 +64,7 @@ small : (t : Bool) → cond t 1 0 ≤ 1
 small true = omega arith
 small false = omega arith
 
-thresholded-at : (r : Record) (levels : List ℕ) (n row col : ℕ) → row < r .height → col < r .width
+pub thresholded-at : (r : Record) (levels : List ℕ) (n row col : ℕ) → row < r .height → col < r .width
     → pixel (r .width) (thresholded r levels n) row col ≡ cond (isHeldAt r n (frameLevel r levels row col)) 1 0
 unfolding thresholded
 thresholded-at r levels n row col a b =

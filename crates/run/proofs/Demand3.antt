@@ -12,7 +12,7 @@ use lib.Dec.{eqb, ltb}
 use lib.ListN.{length}
 use borrow.Author.Tests.{le-ltb, eq-eqb, ne-eqb, eqb-true}
 use Rattle.basics.specs.Refusals.{first}
-use Rattle.basics.proofs.RefusalLaws.{refuses, accepts}
+use Rattle.basics.proofs.RefusalLaws.{first-accepted, refuses, accepts}
 use Rattle.sheet.specs.Sheets.{rowBytes}
 use Rattle.scan.specs.Scan.{scanRows}
 use Rattle.scan.proofs.ScanLaws.{rows-add, rows-length, rows-none}
@@ -20,6 +20,7 @@ use Rattle.run.specs.declared.Record.{Record}
 use Rattle.run.specs.Records.{areaWidth, areaHeight, areaOf, due, recordBad, noRecord}
 use Rattle.run.specs.Continuing.{levelsWrong, withRows, continued, continueRefusals, Continues}
 use Rattle.run.specs.Pictures.{sizeLimit, collectRefusals, thresholdRefusals}
+use Rattle.run.specs.Provisional.{provisionalRefusals}
 use Rattle.run.specs.Series.{Started, State, Slice, Allowed, IsSeries, atStart, next, after, allowed, unbroken, rowsWorked}
 use Rattle.run.specs.Series.{SeriesExist, CutsDoNotShow, AcceptedExactly, NoneReleased, UnfinishedRefused, Released}
 use Rattle.run.proofs.Started.{IsStart, is-start, started-sound}
@@ -133,9 +134,19 @@ unfinished-refused r e levels size out = (
     four : (a b c : Bool) → first ((1, a) ∷ (10, b) ∷ (11, c) ∷ (13, true) ∷ []) ≢ 0
     four a b c = five a false b c
 
--- with everything else in order, the rows alone decide
+-- with everything else in order a look is given, and of pictures the rows alone decide
 module _ (r : Record) (levels : List ℕ) (started : Started r levels) (n : ℕ) (within : n ≤ due r) (size : ℕ)
     (small : size ≤ sizeLimit r) where
+  pub look-given : (out : List ℕ) → length out ≡ r .height * rowBytes (r .width)
+      → first (provisionalRefusals (withRows r n) (scanRows (areaOf r) 0 n levels) size out) ≡ 0
+  look-given out q =
+      rw (
+        started-sound r levels started n within,
+        le-ltb (sizeLimit r) size small,
+        levels-fit r levels started n within,
+        eq-eqb (length out) (r .height * rowBytes (r .width)) q,
+      )
+
   pub by-rows : ((out : List ℕ) → length out ≡ r .height * r .width
       → first (collectRefusals (withRows r n) (scanRows (areaOf r) 0 n levels) out) ≡ cond (eqb n (due r)) 0 13) ×
       ((out : List ℕ) → length out ≡ r .height * rowBytes (r .width)
@@ -144,8 +155,8 @@ module _ (r : Record) (levels : List ℕ) (started : Started r levels) (n : ℕ)
       let a = started-sound r levels started n within in
       let b = levels-fit r levels started n within in (
         (λ out q. rw (a, b, eq-eqb (length out) (r .height * r .width) q) (last (eqb n (due r)))),
-        (λ out q. rw (a, le-ltb (sizeLimit r) size small, b, eq-eqb (length out) (r .height * rowBytes (r .width)) q)
-            (last (eqb n (due r)))),
+        (λ out q. first-accepted (provisionalRefusals (withRows r n) (scanRows (areaOf r) 0 n levels) size out)
+            ((13, not (eqb n (due r))) ∷ []) tt (look-given out q) ∙ last (eqb n (due r))),
       )
     where
       last : (t : Bool) → first ((13, not t) ∷ []) ≡ cond t 0 13

@@ -1,26 +1,26 @@
--- The answers of collecting and thresholding, what their buffers hold, and that no second outcome meets their contracts.
--- Both judge the record, the levels, the room and the rows done; what the code copies or packs within limits is what the
--- definitions say of each kind.
+-- The answers of collecting, thresholding and a look at a run, what their buffers hold, and that no second outcome meets their
+-- contracts. All judge the record, the levels and the room, and the first two the rows done; what the code copies or packs
+-- within limits is what the definitions say of each kind.
 use Prim.Native.Nat.{ℕ, suc, _+_, _*_, _≤_, _<_}
 use native.Mathlib.Numerals.{add-one}
 use native.Mathlib.Omega.{arith}
-use mathlib.Core.Path.{_≡_, refl, ap, _∙_, fun-ext}
+use mathlib.Core.Path.{_≡_, refl, sym, ap, _∙_, fun-ext}
 use mathlib.Core.Logic.{_≢_}
 use mathlib.Core.Bool.{Bool, true, false, not, cond, _&&_, _||_}
-use mathlib.Core.List.{List, [], _∷_}
-use lib.Dec.{eqb, leb, ltb}
+use mathlib.Core.List.{List, [], _∷_, _++_}
+use lib.Dec.{T, eqb, leb, ltb}
 use lib.ListN.{length}
 use borrow.Author.Tests.{lt-ltb, le-ltb, eq-eqb, ne-eqb, eqb-true, ltb-false, not-false}
-use Rattle.basics.specs.Refusals.{first}
+use Rattle.basics.specs.Refusals.{Refusal, first}
 use Rattle.basics.specs.Tables.{raster}
-use Rattle.basics.proofs.RefusalLaws.{rule-unique}
+use Rattle.basics.proofs.RefusalLaws.{numbered, judged-first, judged-next, passed, rule-unique}
 use Rattle.sheet.specs.Sheets.{rowBytes, packed}
 use Rattle.row.specs.RowRule.{none}
 use Rattle.run.specs.declared.Record.{Record}
-use Rattle.run.specs.Records.{isErosion, margin, due, recordBad}
+use Rattle.run.specs.Records.{isErosion, margin, recordBad}
 use Rattle.run.specs.Continuing.{levelsWrong, isDone}
-use Rattle.run.specs.Pictures.{collectedLevel, collected, collectRefusals, Collects, isHeldAt, thresholded, sizeLimit}
-use Rattle.run.specs.Pictures.{releaseRefusals, thresholdRefusals, Thresholds}
+use Rattle.run.specs.Pictures.{collectedLevel, collected, Collects, isHeldAt, thresholded, sizeLimit, Thresholds}
+use Rattle.run.specs.Provisional.{viewRefusals, provisionalRefusals, ShowsProvisional}
 use Rattle.run.specs.Patches.{Canvas, levelIn, limitedTo, heldBetween}
 use Rattle.run.proofs.RecordLaws.{Sound, sound, not-bad}
 
@@ -87,10 +87,10 @@ module _ {r : Record} (s : Sound r) where
       rw q (ap (λ f. packed (r .width) (r .height) f)
       (fun-ext (λ row. fun-ext (λ col. held-level n l low high a b (levelIn (r .width) (margin r) levels row col)))))
 
--- the judge of both: each answer from the tests that led to it
+-- the judge of levels read at a size: each answer from the tests that led to it
 module _ (r : Record) (levels : List ℕ) (n room wanted : ℕ) where
   abbrev judged : ℕ
-  judged = first (releaseRefusals r levels n room wanted)
+  judged = first (viewRefusals r levels n room wanted)
 
   pub size-refused : sizeLimit r < n → 8 ≡ judged
   size-refused l = rw (lt-ltb (sizeLimit r) n l)
@@ -103,47 +103,65 @@ module _ (r : Record) (levels : List ℕ) (n room wanted : ℕ) where
       pub room-refused : room ≢ wanted → 11 ≡ judged
       room-refused e = rw (le-ltb (sizeLimit r) n l, b, ne-eqb room wanted e)
 
-      module _ (e : room ≡ wanted) where
-        pub rows-refused : r .rows ≢ due r → 13 ≡ judged
-        rows-refused d = rw (le-ltb (sizeLimit r) n l, b, eq-eqb room wanted e, ne-eqb (r .rows) (due r) d)
+      pub view-accepted : room ≡ wanted → 0 ≡ judged
+      view-accepted e = rw (le-ltb (sizeLimit r) n l, b, eq-eqb room wanted e)
 
-        pub picture-released : r .rows ≡ due r → 0 ≡ judged
-        picture-released d = rw (le-ltb (sizeLimit r) n l, b, eq-eqb room wanted e, eq-eqb (r .rows) (due r) d)
+  -- what an accepted view may rely on
+  pub view-taken : judged ≡ 0 → (n ≤ sizeLimit r) × (levelsWrong r levels ≡ false) × (room ≡ wanted)
+  view-taken z =
+      let of-room : List Refusal = (11, not (eqb room wanted)) ∷ [] in
+      let of-levels : List Refusal = (10, levelsWrong r levels) ∷ of-room in
+      let (size, rest) = passed 8 (ltb (sizeLimit r) n) of-levels (λ q. absurd (omega arith)) z in
+      let (b, last) = passed 10 (levelsWrong r levels) of-room (λ q. absurd (omega arith)) rest in
+      let (e, _) = passed 11 (not (eqb room wanted)) [] (λ q. absurd (omega arith)) last in
+      (ltb-false (sizeLimit r) n size, b, eqb-true room wanted (not-false _ e))
 
-  -- what an accepted picture may rely on
-  pub release-taken : judged ≡ 0 → (n ≤ sizeLimit r) × (levelsWrong r levels ≡ false) × (room ≡ wanted)
-  release-taken z = go (ltb (sizeLimit r) n) (levelsWrong r levels) (eqb room wanted) refl refl refl z
-    where
-      go : (a b c : Bool) → ltb (sizeLimit r) n ≡ a → levelsWrong r levels ≡ b → eqb room wanted ≡ c
-          → first ((8, a) ∷ (10, b) ∷ (11, not c) ∷ (13, not (isDone r)) ∷ []) ≡ 0
-          → (n ≤ sizeLimit r) × (levelsWrong r levels ≡ false) × (room ≡ wanted)
-      go false false true p q e z = (ltb-false (sizeLimit r) n p, q, eqb-true room wanted e)
-      go false false false p q e z = absurd (omega arith)
-      go false true c p q e z = absurd (omega arith)
-      go true b c p q e z = absurd (omega arith)
+-- a picture has one refusal more than a view, the last: rows are due
+module _ (r : Record) (views : List Refusal) (t : T (numbered views)) where
+  abbrev withRowsDue : List Refusal
+  withRowsDue = views ++ (13, not (isDone r)) ∷ []
 
--- of a sound record, the calls' own refusals are the judge's; collecting asks for the size 0, which every run takes
-module _ (r : Record) (levels out : List ℕ) (a : recordBad r ≡ false) where
-  pub collect-judged : {number : ℕ} → number ≡ first (releaseRefusals r levels 0 (length out) (r .height * r .width))
-      → number ≡ first (collectRefusals r levels out)
-  collect-judged e = e ∙ rw (a, le-ltb (sizeLimit r) 0 (let h : 0 ≤ sizeLimit r = omega arith in h))
+  pub view-refuses : {number : ℕ} → number ≢ 0 → number ≡ first views → number ≡ first withRowsDue
+  view-refuses = judged-first views ((13, not (isDone r)) ∷ [])
 
-  pub threshold-judged : (n : ℕ) {number : ℕ}
-      → number ≡ first (releaseRefusals r levels n (length out) (r .height * rowBytes (r .width)))
-      → number ≡ first (thresholdRefusals r levels n out)
-  threshold-judged n e = e ∙ rw a
+  pub rows-refused : first views ≡ 0 → isDone r ≡ false → 13 ≡ first withRowsDue
+  rows-refused z d = judged-next views ((13, not (isDone r)) ∷ []) t z (rw d)
+
+  pub picture-released : first views ≡ 0 → isDone r ≡ true → first withRowsDue ≡ 0
+  picture-released z d = sym (judged-next views ((13, not (isDone r)) ∷ []) t z (rw d))
 
 module _ (r : Record) (levels out : List ℕ) where
-  pub collect-record : recordBad r ≡ true → 1 ≡ first (collectRefusals r levels out)
-  collect-record a = rw a
+  -- collecting is judged like a view at the size 0, which every run takes
+  abbrev pub collectViews : List Refusal
+  collectViews = (1, recordBad r) ∷ (10, levelsWrong r levels) ∷ (11, not (eqb (length out) (r .height * r .width))) ∷ []
+
+  pub collect-judged : recordBad r ≡ false → {number : ℕ}
+      → number ≡ first (viewRefusals r levels 0 (length out) (r .height * r .width)) → number ≡ first collectViews
+  collect-judged a e = e ∙ rw (a, le-ltb (sizeLimit r) 0 (let h : 0 ≤ sizeLimit r = omega arith in h))
 
   pub collect-unique : (m n : ℕ) (x y : List ℕ) → Collects r levels out m x → Collects r levels out n y → (m ≡ n) × (x ≡ y)
   collect-unique = rule-unique
 
   module _ (n : ℕ) where
-    pub threshold-record : recordBad r ≡ true → 1 ≡ first (thresholdRefusals r levels n out)
-    threshold-record a = rw a
+    pub provisional-judged : recordBad r ≡ false → {number : ℕ}
+        → number ≡ first (viewRefusals r levels n (length out) (r .height * rowBytes (r .width)))
+        → number ≡ first (provisionalRefusals r levels n out)
+    provisional-judged a e = e ∙ rw a
+
+    -- what an accepted look may rely on
+    pub provisional-taken : first (provisionalRefusals r levels n out) ≡ 0
+        → (recordBad r ≡ false) × (n ≤ sizeLimit r) × (levelsWrong r levels ≡ false) ×
+        (length out ≡ r .height * rowBytes (r .width))
+    provisional-taken z =
+        let wanted = r .height * rowBytes (r .width) in
+        let (a, rest) = passed 1 (recordBad r) (viewRefusals r levels n (length out) wanted) (λ q. absurd (omega arith)) z in
+        let taken = view-taken r levels n (length out) wanted rest in
+        (a, taken .0, taken .1, taken .2)
 
     pub threshold-unique : (k m : ℕ) (x y : List ℕ) → Thresholds r levels n out k x → Thresholds r levels n out m y
         → (k ≡ m) × (x ≡ y)
     threshold-unique = rule-unique
+
+    pub provisional-unique : (k m : ℕ) (x y : Bool × List ℕ) → ShowsProvisional r levels n out k x
+        → ShowsProvisional r levels n out m y → (k ≡ m) × (x ≡ y)
+    provisional-unique = rule-unique

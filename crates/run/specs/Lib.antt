@@ -2,6 +2,7 @@ pub mod Records
 pub mod Starting
 pub mod Continuing
 pub mod Pictures
+pub mod Provisional
 pub mod Patches
 pub mod SameStarts
 pub mod Series

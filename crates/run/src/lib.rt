@@ -1,7 +1,8 @@
-// Runs: starting, continuing, collecting and thresholding erosions and dilations.
+// Runs: starting, continuing, collecting and thresholding erosions and dilations, and a look at one under way.
 pub mod continuing;
 pub mod kinds;
 pub mod pictures;
+pub mod provisional;
 pub mod records;
 pub mod starting;
 

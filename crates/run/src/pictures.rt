@@ -1,4 +1,4 @@
-// Pictures of a finished run: its levels collected, and the sheet that it holds at a size.
+// Pictures of a finished run: its levels collected, and the sheet that it holds at a size; and how both, and a look, are judged and packed.
 use super::Record;
 use super::kinds;
 use super::records;
@@ -12,7 +12,8 @@ ghost use Rattle.basics.specs.Tables.{raster};
 ghost use Rattle.sheet.specs.Sheets.{rowBytes, packedByte, packed};
 ghost use Rattle.run.specs.Records.{recordBad};
 ghost use Rattle.run.specs.Patches.{Patch, Canvas, levelIn, limitedTo, heldBetween};
-ghost use Rattle.run.specs.Pictures.{releaseRefusals, Collects, Thresholds};
+ghost use Rattle.run.specs.Pictures.{thresholded, Collects, Thresholds};
+ghost use Rattle.run.specs.Provisional.{viewRefusals, provisionalRefusals};
 
 // The level, or 0 where it is above the limit.
 fn limited(level: u16, limit: u16) -> u16
@@ -66,10 +67,10 @@ fn copy_frame(
     }
 }
 
-// Refusals 8, 10, 11 and 13 of a picture at a size, of a sound record and with `room` entries lent of `wanted`, or 0.
-fn release_refusal(run: Record, levels: &[u16], size: usize, room: usize, wanted: usize) -> u32
+// Refusals 8, 10 and 11 of a sound record's levels read at a size, with `room` entries lent of `wanted`, or 0.
+fn view_refusal(run: Record, levels: &[u16], size: usize, room: usize, wanted: usize) -> u32
     requires { ⌜ recordBad run ≡ false ⌝ }
-    ensures { λ r. ⌜ r ≡ first (releaseRefusals run (now (levels .entry)) size room wanted) ⌝ }
+    ensures { λ r. ⌜ r ≡ first (viewRefusals run (now (levels .entry)) size room wanted) ⌝ }
 {
     if kinds::size_limit(run) < size {
         return 8;
@@ -79,9 +80,6 @@ fn release_refusal(run: Record, levels: &[u16], size: usize, room: usize, wanted
     }
     if room != wanted {
         return 11;
-    }
-    if run.rows != records::rows_due(run) {
-        return 13;
     }
     0
 }
@@ -93,9 +91,12 @@ pub fn collect(run: Record, levels: &[u16], out: &mut [u16]) -> u32
     if records::record_bad(run) {
         return 1;
     }
-    let refusal = release_refusal(run, levels, 0, out.len(), run.height * run.width);
+    let refusal = view_refusal(run, levels, 0, out.len(), run.height * run.width);
     if refusal != 0 {
         return refusal;
+    }
+    if !records::all_done(run) {
+        return 13;
     }
     let margin = records::margin_of(run.cap, run.side);
     let limit = kinds::collected_limit(run);
@@ -206,21 +207,39 @@ pub fn pack_frame(
     }
 }
 
-// Public: fills `out` with the packed sheet that a finished run holds at a size. Refusals 1, 8, 10, 11, 13.
-pub fn threshold(run: Record, levels: &[u16], size: usize, out: &mut [u8]) -> u32
-    ensures { λ r. ⌜ Thresholds run (now (levels .entry)) size (now (out .entry)) r (now (out .exit)) ⌝ }
+// Refusals 1, 8, 10 and 11 of the sheet that the levels hold at a size, whatever rows are done, or 0.
+pub fn provisional_refusal(run: Record, levels: &[u16], size: usize, out: &[u8]) -> u32
+    ensures { λ r. ⌜ r ≡ first (provisionalRefusals run (now (levels .entry)) size (now (out .entry))) ⌝ }
 {
     if records::record_bad(run) {
         return 1;
     }
     let wanted = run.height * sheet::row_bytes(run.width);
-    let refusal = release_refusal(run, levels, size, out.len(), wanted);
-    if refusal != 0 {
-        return refusal;
-    }
+    view_refusal(run, levels, size, out.len(), wanted)
+}
+
+// That sheet, packed.
+pub fn pack_held(run: Record, levels: &[u16], size: usize, out: &mut [u8])
+    requires { ⌜ first (provisionalRefusals run (now levels) size (now out)) ≡ 0 ⌝ }
+    ensures { λ _. ⌜ now (out .exit) ≡ thresholded run (now (levels .entry)) size ⌝ }
+{
     let margin = records::margin_of(run.cap, run.side);
     let low = kinds::below_held(run, size);
     let high = kinds::highest_held(run, size);
     pack_frame(levels, run.width, run.height, margin, low, high, out);
+}
+
+// Public: fills `out` with the packed sheet that a finished run holds at a size. Refusals 1, 8, 10, 11, 13.
+pub fn threshold(run: Record, levels: &[u16], size: usize, out: &mut [u8]) -> u32
+    ensures { λ r. ⌜ Thresholds run (now (levels .entry)) size (now (out .entry)) r (now (out .exit)) ⌝ }
+{
+    let refusal = provisional_refusal(run, levels, size, out);
+    if refusal != 0 {
+        return refusal;
+    }
+    if !records::all_done(run) {
+        return 13;
+    }
+    pack_held(run, levels, size, out);
     0
 }

@@ -9,7 +9,7 @@ ghost use Rattle.element.specs.Elements.{isSide};
 ghost use Rattle.element.specs.Cells.{isHeld};
 ghost use Rattle.run.specs.Records.{marginOf, areaWidth, areaHeight, due, outside, anyOutside, elementForeign, capForeign};
 ghost use Rattle.run.specs.Records.{foreign, recordBad, noRecord};
-ghost use Rattle.run.specs.Continuing.{levelsWrong};
+ghost use Rattle.run.specs.Continuing.{levelsWrong, isDone};
 
 // Whether place `p` of seven is one of the side's, centred among the seven.
 fn is_held(side: usize, p: usize) -> bool
@@ -141,6 +141,14 @@ pub fn rows_due(run: Record) -> usize
 {
     let height = area_height(run);
     height + height
+}
+
+// Whether all of them are done.
+pub fn all_done(run: Record) -> bool
+    requires { ⌜ foreign run ≡ false ⌝ }
+    ensures { λ r. ⌜ r ≡ isDone run ⌝ }
+{
+    run.rows == rows_due(run)
 }
 
 // Whether the levels lent are not one for each point of the area.

@@ -1,6 +1,6 @@
 -- Small laws of a scan of rows, by induction on the rows: it may be cut anywhere, it keeps the list's length, and it never
--- raises a level.
--- The last two are instances of one: what the row rule keeps at every point, a scan keeps.
+-- raises a level nor lowers one to 0.
+-- The last three are instances of one: what the row rule keeps at every point, a scan keeps.
 use mathlib.Core.Path.{_≡_, refl, sym, ap, _∙_}
 use borrow.Author.Tests.{lt-ltb, le-ltb}
 use mathlib.Core.Bool.{Bool, true, false, cond}
@@ -73,6 +73,24 @@ rows-lower area done n levels i = rows-keep (λ l. getD l i 0 ≤ getD levels i 
         → getD l i 0 ≤ getD levels i 0 → getD (pointRule area upward row l col) i 0 ≤ getD levels i 0
     point upward row l col a b h = let g =
         set-lower l (row * area .width + col) (lowered area upward l row col) i (omega arith) in omega arith
+
+set-positive : (levels : List ℕ) (k level i : ℕ) → (0 < getD levels k 0 → 0 < level) → 0 < getD levels i 0
+    → 0 < getD (set levels k level) i 0
+set-positive [] k level i h p = p
+set-positive (x ∷ levels) zero level zero h p = h p
+set-positive (x ∷ levels) zero level (suc i) h p = p
+set-positive (x ∷ levels) (suc k) level zero h p = p
+set-positive (x ∷ levels) (suc k) level (suc i) h p = set-positive levels k level i h p
+
+-- what a partner offers is one more than a level
+pub rows-positive : (area : Area) (done n : ℕ) (levels : List ℕ) (i : ℕ) → 0 < getD levels i 0
+    → 0 < getD (scanRows area done n levels) i 0
+unfolding pointRule lowered
+rows-positive area done n levels i = rows-keep (λ l. 0 < getD l i 0) area point done n levels
+  where
+    point : (upward : Bool) (row : ℕ) (l : List ℕ) (col : ℕ) → (0 < area .height → row < area .height) → col < area .width
+        → 0 < getD l i 0 → 0 < getD (pointRule area upward row l col) i 0
+    point upward row l col a b = set-positive l (row * area .width + col) (lowered area upward l row col) i (λ h. omega arith)
 
 -- the turns of the code's loop: no row yet, and one row more
 pub rows-none : (area : Area) (done : ℕ) (levels : List ℕ) → scanRows area done 0 levels ≡ levels

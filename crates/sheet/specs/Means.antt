@@ -18,3 +18,12 @@ LevelsMean width height IsLevel levels = (row col : ℕ) → row < height → co
 abbrev pub SheetMeans : ℕ → ℕ → PointSet → List ℕ → Type 0
 SheetMeans width height A sheet = (row col : ℕ) → row < height → col < width
     → (pixel width sheet row col ≡ 1) ↔ A (at (pos row) (pos col))
+
+-- a packed sheet that holds all points of the set, or none but these
+abbrev pub SheetContains : ℕ → ℕ → PointSet → List ℕ → Type 0
+SheetContains width height A sheet = (row col : ℕ) → row < height → col < width
+    → A (at (pos row) (pos col)) → pixel width sheet row col ≡ 1
+
+abbrev pub SheetWithin : ℕ → ℕ → PointSet → List ℕ → Type 0
+SheetWithin width height A sheet = (row col : ℕ) → row < height → col < width
+    → pixel width sheet row col ≡ 1 → A (at (pos row) (pos col))

@@ -1,0 +1,149 @@
+-- Where the series ends the run is an unbroken scan, and the finished run is what the rows still due make of it. They never raise a
+-- level and lower none to 0, so a level that an erosion ends with above the size is above it before, and one that a dilation has
+-- from 1 to the size and one ends there too. What the finished levels hold is the right set, by demand 2.
+use Prim.Native.Nat.{ℕ, suc, _+_, _-_, _*_, _≤_, _<_}
+use native.Mathlib.Omega.{arith}
+use mathlib.Core.Path.{_≡_, refl, sym, ap, subst, _∙_}
+use mathlib.Core.Bool.{Bool, true, false, cond}
+use mathlib.Core.List.{List, [], _∷_}
+use lib.Dec.{eqb, leb}
+use lib.ListN.{length, getD}
+use borrow.Author.Tests.{eq-eqb, ne-eqb, eqb-true, lt-ltb, ltb-true, le-leb, leb-true}
+use Rattle.basics.proofs.BoundLaws.{both}
+use Rattle.sheet.specs.Sheets.{rowBytes, pixel}
+use Rattle.sheet.specs.Means.{SheetMeans}
+use Rattle.scan.specs.Scan.{scanRows}
+use Rattle.scan.proofs.ScanLaws.{rows-add, rows-lower, rows-positive}
+use Rattle.run.specs.declared.Record.{Record}
+use Rattle.run.specs.Records.{isErosion, areaOf, due}
+use Rattle.run.specs.Continuing.{withRows}
+use Rattle.run.specs.Pictures.{frameLevel, isHeldAt, thresholded, sizeLimit}
+use Rattle.run.specs.Provisional.{ShowsProvisional}
+use Rattle.run.specs.Series.{Started, State, Slice, Allowed, IsSeries, atStart, next, after, rowsWorked}
+use Rattle.run.specs.Demand2.{finished}
+use Rattle.run.proofs.Demand2.{thresholded-at}
+use Rattle.run.proofs.Demand3.{cuts-do-not-show, look-given}
+use Rattle.demands.specs.Demand3.{RightSet}
+use Rattle.demands.specs.CutRuns.{Shown, EveryCut, FinalIsOrdinary}
+use Rattle.demands.proofs.Demand3.{thresholded-rows, right-sheet}
+
+-- NO CALL RAISES A LEVEL, whatever the run
+call-lowers : (s : State) (call : Slice) → Allowed s call → (place : ℕ) → getD (next s call .2) place 0 ≤ getD (s .2) place 0
+call-lowers s call p place = go (eqb (call .number) 0) refl
+  where
+    accepted : call .number ≡ 0 → getD (call .answer .2) place 0 ≤ getD (s .2) place 0
+    accepted z =
+        let lower = rows-lower (areaOf (call .run)) (call .run .rows) _ (call .levels) place in
+        rw (ap (λ (t : State). t .2) (p .outcome .accepted z), sym (p .own z .1)) lower
+
+    go : (t : Bool) → eqb (call .number) 0 ≡ t → getD (cond t (call .answer) s .2) place 0 ≤ getD (s .2) place 0
+    go true e = accepted (eqb-true (call .number) 0 e)
+    go false e = omega arith
+
+calls-lower : (s : State) (series : List Slice) → IsSeries s series → (place : ℕ)
+    → getD (after s series .2) place 0 ≤ getD (s .2) place 0
+unfolding IsSeries after
+calls-lower s [] p place = omega arith
+calls-lower s (call ∷ series) p place =
+    let step = call-lowers s call (p .0) place in
+    let rest = calls-lower (next s call) series (p .1) place in
+    omega arith
+
+-- a level and the one that it is lowered to: what an erosion holds of the lower it holds of the higher, and a dilation, where
+-- none is lowered to 0, the other way about
+module _ (r : Record) (n lower level : ℕ) (l : lower ≤ level) where
+  held-before : isErosion r ≡ true → isHeldAt r n lower ≡ true → isHeldAt r n level ≡ true
+  held-before k h =
+      let above = ltb-true n lower (rw k at h) in
+      rw k (lt-ltb n level (omega arith))
+
+  held-after : isErosion r ≡ false → (0 < level → 0 < lower) → isHeldAt r n level ≡ true → isHeldAt r n lower ≡ true
+  held-after k positive h =
+      let (some, most) = both (leb 1 level) (leb level (suc n)) (rw k at h) in
+      let p = positive (leb-true 1 level some) in
+      let q = leb-true level (suc n) most in
+      rw (k, le-leb 1 lower p, le-leb lower (suc n) (omega arith))
+
+-- so with the pixels of levels and of what more rows make of them
+module _ (r : Record) (levels : List ℕ) (done count n row col : ℕ) (a : row < r .height) (b : col < r .width) where
+  abbrev later : List ℕ
+  later = scanRows (areaOf r) done count levels
+
+  abbrev Seen : List ℕ → Type 0
+  Seen l = pixel (r .width) (thresholded r l n) row col ≡ 1
+
+  held : (l : List ℕ) → Seen l → isHeldAt r n (frameLevel r l row col) ≡ true
+  held l e = go _ (sym (thresholded-at r l n row col a b) ∙ e)
+    where
+      go : (t : Bool) → _≡_ {A = ℕ} (cond t 1 0) 1 → t ≡ true
+      go true e = refl
+      go false e = absurd (omega arith)
+
+  seen : (l : List ℕ) → isHeldAt r n (frameLevel r l row col) ≡ true → Seen l
+  seen l e = thresholded-at r l n row col a b ∙ ap (λ t. cond t 1 0) e
+
+  lower : frameLevel r later row col ≤ frameLevel r levels row col
+  lower = rows-lower (areaOf r) done count levels _
+
+  seen-before : isErosion r ≡ true → Seen later → Seen levels
+  seen-before k e = seen levels (held-before r n (frameLevel r later row col) (frameLevel r levels row col) lower k (held later e))
+
+  seen-after : isErosion r ≡ false → Seen levels → Seen later
+  seen-after k e =
+      seen later (held-after r n (frameLevel r later row col) (frameLevel r levels row col) lower k
+      (rows-positive (areaOf r) done count levels _) (held levels e))
+
+-- a started run of which n rows are done
+module _ {r : Record} {levels : List ℕ} (started : Started r levels) (n : ℕ) (within : n ≤ due r) where
+  abbrev own : List ℕ
+  own = scanRows (areaOf r) 0 n levels
+
+  -- the rows still due finish it
+  finishes : scanRows (areaOf r) (0 + n) (due r - n) own ≡ finished r levels
+  finishes =
+      let e : n + (due r - n) ≡ due r = omega arith in
+      sym (rows-add (areaOf r) 0 n (due r - n) levels) ∙ ap (λ m. scanRows (areaOf r) 0 m levels) e
+
+  above-final : (place : ℕ) → getD (finished r levels) place 0 ≤ getD own place 0
+  above-final place = rw (sym finishes) (rows-lower (areaOf r) (0 + n) (due r - n) own place)
+
+  module _ (size : ℕ) (small : size ≤ sizeLimit r) where
+    look : (out : List ℕ) → length out ≡ r .height * rowBytes (r .width) → (number : ℕ) (is-final : Bool) (sheet : List ℕ)
+        → ShowsProvisional (withRows r n) own size out number (is-final, sheet) → Shown started n size number is-final sheet
+    look out q number is-final sheet c =
+        let z = c .refusal ∙ look-given r levels started n within size small out q in
+        let answer = c .accepted z in
+        let final = ap (λ t. t .0) answer in
+        let same = ap (λ t. t .1) answer ∙ thresholded-rows r n own size in
+        let right = right-sheet started size small in
+        record {
+          given = z;
+          final = ((λ e. eqb-true n (due r) (sym final ∙ e)), (λ e. final ∙ eq-eqb n (due r) e));
+          contains = λ k row col a b h. rw same
+              (seen-before r own (0 + n) (due r - n) size row col a b (eq-eqb (r .kind) 1 k)
+              (rw finishes (right row col a b .1 h)));
+          within = λ k row col a b h. right row col a b .0
+              (rw (sym finishes) (seen-after r own (0 + n) (due r - n) size row col a b
+              (ne-eqb (r .kind) 1 (λ e. absurd (omega arith))) (rw same at h)));
+          whole = λ e. subst (SheetMeans (r .width) (r .height) (RightSet started size))
+              (sym (same ∙ ap (λ m. thresholded r (scanRows (areaOf r) 0 m levels) size) e)) right;
+        }
+
+-- A LOOK AT A CUT RUN
+pub every-cut : EveryCut
+every-cut r levels started series p =
+    let n = rowsWorked r series in
+    let here = cuts-do-not-show r levels started series p in
+    record {
+      none-below = λ place. rw here (above-final started n (omega arith) place);
+      none-raised = λ more q. calls-lower (after (atStart r levels) series) more q;
+      shown = λ size small out q number is-final sheet c. look started n (omega arith) size small out q number is-final sheet
+          (rw here at c);
+    }
+
+pub final-is-ordinary : FinalIsOrdinary
+final-is-ordinary r d levels size out number is-final sheet c = record {
+  refusal = c .refusal ∙ rw d;
+  accepted = λ z. ap (λ t. t .1) (c .accepted z);
+  refused = λ z. ap (λ t. t .1) (c .refused z);
+}
