@@ -177,6 +177,26 @@ uint32_t wt_threshold(const uint64_t *record, size_t record_len,
                       uint8_t *out, size_t out_len);
 
 /*
+ * Looks at a run that may have rows still due: the rule of wt_threshold on the levels as they stand. The sheet is no
+ * picture until it is final. Of a run that was started and continued as it should be, an erosion's sheet holds the eroded
+ * set and perhaps more, a dilation's lies within the dilated set; of a finished run it is what wt_threshold gives.
+ *
+ *   record   the run's record
+ *   levels   the run's own levels as they stand, also such that no start gave
+ *   size     n: 0 to 4,096 for an erosion, 0 to R for a dilation
+ *   out      a sheet of the frame. A pixel is foreground where its level is above n (erosion), or 1 to n + 1
+ *            (dilation).
+ *   state    1 word; becomes 1 where all rows are done and the sheet is final, else 0: it is provisional
+ *
+ * Refusals, in order: 1, 8, 10, 11 (out of another length, or state not 1 word).
+ */
+uint32_t wt_provisional(const uint64_t *record, size_t record_len,
+                        const uint16_t *levels, size_t levels_len,
+                        uint64_t size,
+                        uint8_t *out, size_t out_len,
+                        uint64_t *state, size_t state_len);
+
+/*
  * Opens a sheet by one size: erodes by it, then dilates by it.
  *
  *   width, height    the frame

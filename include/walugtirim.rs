@@ -12,6 +12,8 @@ extern "C" {
         out_len: usize) -> u32;
     pub fn wt_threshold(record: *const u64, record_len: usize, levels: *const u16, levels_len: usize, size: u64,
         out: *mut u8, out_len: usize) -> u32;
+    pub fn wt_provisional(record: *const u64, record_len: usize, levels: *const u16, levels_len: usize, size: u64,
+        out: *mut u8, out_len: usize, state: *mut u64, state_len: usize) -> u32;
     pub fn wt_open(width: u64, height: u64, sheet: *const u8, sheet_len: usize, side: u64, cells: *const u8,
         cells_len: usize, size: u64, work_a: *mut u16, work_a_len: usize, work_b: *mut u16, work_b_len: usize,
         out: *mut u8, out_len: usize) -> u32;

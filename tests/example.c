@@ -1,5 +1,5 @@
 /*
- * Erodes a full sheet of 3 by 3 with the cross, in two slices, and prints its levels.
+ * Erodes a full sheet of 3 by 3 with the cross, in two slices with a look after each, and prints its levels.
  *
  * Build: cc -I include tests/example.c target/staticlib/libharness.a -o example
  */
@@ -27,6 +27,8 @@ int main(void)
     uint16_t picture[POINTS];
     uint64_t record[WT_RECORD_WORDS];
     uint64_t done[1];
+    uint8_t seen[HEIGHT];
+    uint64_t state[1];
     uint32_t number;
 
     number = wt_start_erosion(WIDTH, HEIGHT, sheet, sizeof sheet, 3, cross, sizeof cross, levels, POINTS, record,
@@ -39,6 +41,13 @@ int main(void)
         if (number != 0)
             return refused("continue", number);
         printf("rows done %u, %s\n", (unsigned)record[WT_RECORD_ROWS_DONE], done[0] ? "complete" : "rows still due");
+
+        /* A look at size 1: before the end it may hold too much, at the end it is the eroded sheet. */
+        number = wt_provisional(record, WT_RECORD_WORDS, levels, POINTS, 1, seen, sizeof seen, state, 1);
+        if (number != 0)
+            return refused("provisional", number);
+        printf("eroded by 1, %s: %02X %02X %02X\n", state[0] ? "final" : "provisional", (unsigned)seen[0], (unsigned)seen[1],
+               (unsigned)seen[2]);
 
         number = wt_collect(record, WT_RECORD_WORDS, levels, POINTS, picture, POINTS);
         if (number != 0)

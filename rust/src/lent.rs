@@ -142,6 +142,48 @@ pub fn threshold(
     })
 }
 
+/// Whether the sheet of a look is provisional or final.
+#[must_use]
+#[derive(Clone, Copy, Debug, PartialEq, Eq)]
+pub enum State {
+    /// Rows are still due: the sheet is no picture.
+    Provisional,
+    /// All rows are done: the sheet is what [`threshold`] gives.
+    Final,
+}
+
+/// Looks at the sheet of one size as the levels stand, whatever rows are done.
+///
+/// # Errors
+/// 1, 8, 10, 11, the first that applies.
+pub fn provisional(
+    record: &Record,
+    levels: &[u16],
+    size: u64,
+    out: &mut [u8],
+) -> Result<State, Refusal> {
+    let mut state = [0];
+    let number = unsafe {
+        c::wt_provisional(
+            record.as_ptr(),
+            record.len(),
+            levels.as_ptr(),
+            levels.len(),
+            size,
+            out.as_mut_ptr(),
+            out.len(),
+            state.as_mut_ptr(),
+            state.len(),
+        )
+    };
+    Refusal::check(number)?;
+    Ok(if state[0] == 1 {
+        State::Final
+    } else {
+        State::Provisional
+    })
+}
+
 /// The C type of `wt_open` and `wt_close`, and of `wt_closing_levels`, where the answer has levels and not bytes.
 #[rustfmt::skip]
 type Filter<T> = unsafe extern "C" fn(

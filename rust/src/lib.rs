@@ -3,7 +3,7 @@
 //! A [`Sheet`] is a set of foreground points on the infinite grid, seen through a frame; all beyond the frame is
 //! background. An [`Element`] is a small set around its origin. A [`Run`] finds, at every point of the frame, up to
 //! which size an erosion keeps it or from which size a dilation reaches it; it can be worked in slices of rows, and
-//! gives no picture before all its rows are done.
+//! gives no picture before all its rows are done. [`Run::provisional`] is a look at one under way.
 //!
 //! ```
 //! use walugtirim::{Element, Run, Sheet};
@@ -28,7 +28,7 @@ mod room;
 
 pub use refusal::Refusal;
 
-use lent::{Given, Record};
+use lent::{Given, Record, State};
 
 /// The words of a record.
 pub const RECORD_WORDS: usize = 55;
@@ -339,6 +339,38 @@ impl Run {
         Ok(sheet)
     }
 
+    /// A look at the sheet of one size as the levels stand: final where all rows are done, else provisional. Sizes are
+    /// those of [`Run::threshold`].
+    ///
+    /// ```
+    /// use walugtirim::{Element, Look, Run, Sheet};
+    ///
+    /// # fn main() -> Result<(), walugtirim::Refusal> {
+    /// let sheet = Sheet::new(3, 3, vec![0xE0; 3]);
+    /// let mut run = Run::start_erosion(&sheet, &Element::cross())?;
+    /// run.continue_by(4)?;
+    /// match run.provisional(1)? {
+    ///     Look::Provisional(seen) => assert!(seen.pixel(1, 1) && seen.rows_done() == 4),
+    ///     Look::Final(_) => unreachable!("6 rows are due"),
+    /// }
+    /// run.finish()?;
+    /// assert_eq!(run.provisional(1)?, Look::Final(run.threshold(1)?));
+    /// # Ok(())
+    /// # }
+    /// ```
+    ///
+    /// # Errors
+    /// 1, 8 or 10, the lowest that applies.
+    pub fn provisional(&self, size: u64) -> Result<Look, Refusal> {
+        let mut sheet = Sheet::background(self.record[1], self.record[2]);
+        let state = lent::provisional(&self.record, &self.levels, size, &mut sheet.bytes)?;
+        let rows_done = self.rows_done();
+        Ok(match state {
+            State::Final => Look::Final(sheet),
+            State::Provisional => Look::Provisional(ProvisionalSheet { sheet, rows_done }),
+        })
+    }
+
     /// The finished levels as a plain PGM file.
     ///
     /// # Errors
@@ -350,5 +382,56 @@ impl Run {
         let length = lent::write_pgm(&self.record, &levels, &mut file)?;
         file.truncate(room::count(length));
         Ok(file)
+    }
+}
+
+/// What [`Run::provisional`] shows of a run.
+#[derive(Clone, Debug, PartialEq, Eq)]
+pub enum Look {
+    /// All rows are done: the sheet that [`Run::threshold`] gives.
+    Final(Sheet),
+    /// Rows are still due.
+    Provisional(ProvisionalSheet),
+}
+
+/// The sheet of a run that has rows still due. It is no picture, and so no [`Sheet`]: it can be looked at, but not
+/// filtered, started from or written to a file.
+///
+/// An erosion's holds every point of the eroded set and perhaps more; a dilation's lies within the dilated set.
+#[derive(Clone, Debug, PartialEq, Eq)]
+pub struct ProvisionalSheet {
+    sheet: Sheet,
+    rows_done: u64,
+}
+
+impl ProvisionalSheet {
+    /// The width of the frame.
+    #[must_use]
+    pub fn width(&self) -> u64 {
+        self.sheet.width
+    }
+
+    /// The height of the frame.
+    #[must_use]
+    pub fn height(&self) -> u64 {
+        self.sheet.height
+    }
+
+    /// Whether the pixel is foreground so far; beyond the frame none is.
+    #[must_use]
+    pub fn pixel(&self, column: u64, row: u64) -> bool {
+        self.sheet.pixel(column, row)
+    }
+
+    /// The packed bytes, laid out as a [`Sheet`]'s.
+    #[must_use]
+    pub fn bytes(&self) -> &[u8] {
+        &self.sheet.bytes
+    }
+
+    /// Rows that were worked when it was taken.
+    #[must_use]
+    pub fn rows_done(&self) -> u64 {
+        self.rows_done
     }
 }

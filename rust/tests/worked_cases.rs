@@ -1,7 +1,7 @@
 //! The small sheets of document 01, worked by hand, through the safe functions; and that no argument, however wrong,
 //! does more than be refused.
 
-use walugtirim::{Element, Refusal, Run, Sheet};
+use walugtirim::{Element, Look, Refusal, Run, Sheet};
 
 /// A sheet of one row, `1` being foreground.
 fn row(pixels: &str) -> Sheet {
@@ -62,6 +62,40 @@ fn one_neighbour_and_its_reflection() {
     assert_eq!(erosion(&full, &t().reflect().unwrap()), [1, 2, 3, 4, 5]);
     assert_eq!(dilation(&row("00100"), &t(), 2), [0, 0, 1, 2, 3]);
     assert_eq!(dilation(&row("00100"), &t(), 1), [0, 0, 1, 2, 0]);
+}
+
+/// The packed bytes of a look that has to be provisional, and the rows that it was taken at.
+fn provisional(run: &Run, size: u64) -> (Vec<u8>, u64) {
+    match run.provisional(size).unwrap() {
+        Look::Provisional(seen) => (seen.bytes().to_vec(), seen.rows_done()),
+        Look::Final(_) => panic!("rows are still due"),
+    }
+}
+
+#[test]
+fn a_look_at_a_cut_run() {
+    let mut run = Run::start_erosion(&row("11111"), &t()).unwrap();
+    run.continue_by(1).unwrap();
+    // Eroding by 4 holds the first point; the row that is still due has to take the other four.
+    assert_eq!(provisional(&run, 4), (vec![0xF8], 1));
+    assert_eq!(number(run.threshold(4)), 13);
+    assert_eq!(number(run.provisional(4097)), 8);
+    run.finish().unwrap();
+    assert_eq!(run.threshold(4).unwrap(), row("10000"));
+    assert_eq!(run.provisional(4), Ok(Look::Final(row("10000"))));
+
+    let mut run = Run::start_dilation(&row("00100"), &t(), 2).unwrap();
+    assert_eq!(provisional(&run, 2), (vec![0x20], 0));
+    assert_eq!(number(run.provisional(3)), 8);
+    run.finish().unwrap();
+    assert_eq!(run.provisional(2), Ok(Look::Final(row("00111"))));
+
+    let (record, mut levels) = run.into_parts();
+    levels.pop();
+    let short = Run::from_parts(record, levels.clone());
+    assert_eq!(number(short.provisional(2)), 10);
+    let foreign = Run::from_parts([0; 55], levels);
+    assert_eq!(number(foreign.provisional(2)), 1);
 }
 
 #[test]

@@ -11,28 +11,30 @@ pub const COLLECT: usize = 3;
 
 pub const THRESHOLD: usize = 4;
 
-pub const WRITE_PGM: usize = 5;
+pub const PROVISIONAL: usize = 5;
 
-pub const REFLECT: usize = 6;
+pub const WRITE_PGM: usize = 6;
 
-pub const READ_PBM: usize = 7;
+pub const REFLECT: usize = 7;
 
-pub const WRITE_PBM: usize = 8;
+pub const READ_PBM: usize = 8;
 
-pub const OPEN: usize = 9;
+pub const WRITE_PBM: usize = 9;
 
-pub const CLOSE: usize = 10;
+pub const OPEN: usize = 10;
 
-pub const OPENING_LEVELS: usize = 11;
+pub const CLOSE: usize = 11;
 
-pub const CLOSING_LEVELS: usize = 12;
+pub const OPENING_LEVELS: usize = 12;
 
-pub const NO_CALL: usize = 13;
+pub const CLOSING_LEVELS: usize = 13;
+
+pub const NO_CALL: usize = 14;
 
 // How many levels each accepted case lends, and how many bytes or levels of room for the answer.
-const LEVELS: [usize; 13] = [9, 25, 9, 9, 9, 9, 0, 0, 0, 9, 25, 9, 25];
+const LEVELS: [usize; 14] = [9, 25, 9, 9, 9, 9, 9, 0, 0, 0, 9, 25, 9, 25];
 
-const ROOM: [usize; 13] = [0, 0, 0, 9, 3, 41, 9, 1, 10, 3, 3, 9, 9];
+const ROOM: [usize; 14] = [0, 0, 0, 9, 3, 3, 41, 9, 1, 10, 3, 3, 9, 9];
 
 // A case: the call; the frame; how many bytes of sheet are lent, and their value; the element's side, its bytes as decimal digits
 // (9 stands for 255) and how many of them are lent; the size, cap or allowance; the record (0 all zero, 1 begun, 2 with all rows
@@ -54,7 +56,7 @@ pub struct Case {
     pub answer: usize,
 }
 
-fn entry(table: [usize; 13], call: usize) -> usize {
+fn entry(table: [usize; 14], call: usize) -> usize {
     if NO_CALL <= call {
         return 0;
     }

@@ -62,6 +62,10 @@ fn run_on(case: Case, first: &mut [u16], levels: &mut [u16], out: &mut [u8]) -> 
     if call == asking::THRESHOLD {
         return run::pictures::threshold(record, first, case.number, out);
     }
+    if call == asking::PROVISIONAL {
+        let shown = run::provisional::provisional(record, first, case.number, out);
+        return shown.refusal;
+    }
     let written = pgm::finished::write_pgm(record, first, out);
     written.refusal
 }

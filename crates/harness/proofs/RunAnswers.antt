@@ -12,9 +12,10 @@ use Rattle.basics.proofs.RefusalLaws.{numbered}
 use Rattle.run.specs.declared.Record.{Record}
 use Rattle.run.specs.Records.{recordBad, noRecord}
 use Rattle.run.specs.Continuing.{levelsWrong, continueRefusals, Continues}
+use Rattle.run.specs.Provisional.{provisionalRefusals, ShowsProvisional}
 use Rattle.harness.specs.Boundary.{recordWords, wordsOf, recordOf, holdsNoRecord, wordsRefusal, answerRefusal}
 use Rattle.harness.specs.Boundary.{atEleven, answered, atLatest}
-use Rattle.harness.specs.Runs.{flag, continueWords, ContinuesWords}
+use Rattle.harness.specs.Runs.{flag, continueWords, ContinuesWords, ShowsProvisionalWords}
 use Rattle.harness.proofs.AnswerLaws.{upToEleven, latest-refuses, carried-refusal, carried-answer, answer-fits}
 use Rattle.harness.proofs.AnswerLaws.{slice-answers, one-stored}
 
@@ -72,3 +73,26 @@ module _ (words levels : List ℕ) (allowance : ℕ) (done : List ℕ) where
             after,
             set done 0 v,
           ) (λ e. rw (w, one-stored done v a, f) (ap continueWords e))
+
+-- A LOOK
+module _ (words levels : List ℕ) (size : ℕ) (out state : List ℕ) where
+  module _ (h : holdsNoRecord words ≡ false) (run : Record) (q : run ≡ recordOf words) where
+    abbrev refusals : List Refusal
+    refusals = wordsRefusal words ∷ atEleven (answerRefusal 1 state) (provisionalRefusals (recordOf words) levels size out)
+
+    pub look-other : length state ≢ 1 → {number n : ℕ} → number ≡ atLatest n
+        → n ≡ first (provisionalRefusals run levels size out)
+        → ShowsProvisionalWords words levels size out state number (out, state)
+    look-other a e f =
+        latest-refuses (provisionalRefusals (recordOf words) levels size out) [] tt tt tt refusals
+        (rw (h, ne-eqb (length state) 1 a)) e (f ∙ ap (λ r. first (provisionalRefusals r levels size out)) q)
+
+    pub look-answers : length state ≡ 1 → (n : ℕ) (is-final : Bool) (after : List ℕ)
+        → ShowsProvisional run levels size out n (is-final, after)
+        → (v : ℕ) → v ≡ flag is-final → (next : List ℕ) → next ≡ answered n (v ∷ []) state
+        → ShowsProvisionalWords words levels size out state n (after, next)
+    look-answers a n is-final after p v f next e =
+        slice-answers (λ b. flag b ∷ []) state next (rw q at p) fits (rw f at e)
+      where
+        fits : first refusals ≡ first (provisionalRefusals (recordOf words) levels size out)
+        fits = rw (h, eq-eqb (length state) 1 a)

@@ -6,6 +6,7 @@ use Rattle.basics.proofs.RefusalLaws.{rule-unique}
 use Rattle.element.specs.Reflect.{Reflects}
 use Rattle.harness.specs.Files.{ReadsSheet, WritesSheet, WritesPicture}
 use Rattle.harness.specs.Runs.{StartsErosionWords, StartsDilationWords, ContinuesWords, CollectsWords, ThresholdsWords}
+use Rattle.harness.specs.Runs.{ShowsProvisionalWords}
 
 module _ (m n : ℕ) where
   pub reflect-unique : (side : ℕ) (cells out x y : List ℕ) → Reflects side cells out m x → Reflects side cells out n y
@@ -36,6 +37,11 @@ module _ (m n : ℕ) where
     pub write-pgm-unique : (words levels out answer : List ℕ) → WritesPicture words levels out answer m x
         → WritesPicture words levels out answer n y → (m ≡ n) × (x ≡ y)
     write-pgm-unique words levels out answer = rule-unique m n x y
+
+    pub provisional-unique : (words levels : List ℕ) (size : ℕ) (out state : List ℕ)
+        → ShowsProvisionalWords words levels size out state m x → ShowsProvisionalWords words levels size out state n y
+        → (m ≡ n) × (x ≡ y)
+    provisional-unique words levels size out state = rule-unique m n x y
 
     pub start-erosion-unique : (width height : ℕ) (sheet : List ℕ) (side : ℕ) (cells levels words : List ℕ)
         → StartsErosionWords width height sheet side cells levels words m x

@@ -9,8 +9,9 @@ use Rattle.row.specs.RowRule.{none}
 use Rattle.run.specs.declared.Record.{Record}
 use Rattle.run.specs.Records.{marginOf}
 use Rattle.run.specs.Starting.{startRecord, startLevels, erosionRefusals, dilationRefusals}
-use Rattle.run.specs.Continuing.{continueRefusals, continued}
+use Rattle.run.specs.Continuing.{isDone, continueRefusals, continued}
 use Rattle.run.specs.Pictures.{collected, collectRefusals, thresholded, thresholdRefusals}
+use Rattle.run.specs.Provisional.{provisionalRefusals}
 use Rattle.harness.specs.Boundary.{recordWords, wordsOf, recordOf, wordsRefusal, answerRefusal, atEleven}
 
 -- starting: the levels, and the record
@@ -53,3 +54,12 @@ abbrev pub ThresholdsWords : List ℕ → List ℕ → ℕ → List ℕ → ℕ 
 ThresholdsWords words levels size out =
     Answers (wordsRefusal words ∷ thresholdRefusals (recordOf words) levels size out) out
     (λ after. after ≡ thresholded (recordOf words) levels size)
+
+-- a look: the sheet, and whether it is final, as 1 or 0
+abbrev pub ShowsProvisionalWords : List ℕ → List ℕ → ℕ → List ℕ → List ℕ → ℕ → List ℕ × List ℕ → Type 0
+ShowsProvisionalWords words levels size out state =
+    Answers (wordsRefusal words ∷ atEleven (answerRefusal 1 state) (provisionalRefusals (recordOf words) levels size out)) (
+      out,
+      state,
+    )
+    (λ after. after ≡ (thresholded (recordOf words) levels size, flag (isDone (recordOf words)) ∷ []))

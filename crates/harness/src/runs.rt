@@ -1,4 +1,4 @@
-// Runs: started, continued, collected and thresholded, with the record as words.
+// Runs: started, continued, collected, thresholded and looked at, with the record as words.
 use super::answers;
 use super::words;
 use run::starting::Started;
@@ -6,7 +6,7 @@ ghost use mathlib.Core.Path.{_≡_};
 ghost use lib.ListN.{length};
 ghost use Rattle.harness.specs.Boundary.{recordWords, wordsOf, answered};
 ghost use Rattle.harness.specs.Runs.{flag, StartsErosionWords, StartsDilationWords};
-ghost use Rattle.harness.specs.Runs.{ContinuesWords, CollectsWords, ThresholdsWords};
+ghost use Rattle.harness.specs.Runs.{ContinuesWords, CollectsWords, ThresholdsWords, ShowsProvisionalWords};
 
 // Public: the frame's levels of a finished run, into `out`. Refusals 1, 10, 11, 13.
 #[no_mangle]
@@ -40,6 +40,32 @@ fn flag_of(all: bool) -> u64
         return 1;
     }
     0
+}
+
+// Public: the sheet that a run's levels hold at a size as they stand, into `out`; `state` becomes 1 where it is final, else 0.
+// Refusals 1, 8, 10, 11.
+#[no_mangle]
+pub extern "C" fn wt_provisional(
+    words: &[u64],
+    levels: &[u16],
+    size: u64,
+    out: &mut [u8],
+    state: &mut [u64],
+) -> u32
+    ensures { λ r. ⌜ ShowsProvisionalWords (now (words .entry)) (now (levels .entry)) size (now (out .entry)) (now (state .entry)) r
+        (now (out .exit), now (state .exit)) ⌝ }
+{
+    if words::holds_no_record(words) {
+        return 1;
+    }
+    let run = words::read_record(words);
+    if state.len() != 1 {
+        let refusal = run::pictures::provisional_refusal(run, levels, size as usize, out);
+        return answers::at_latest(refusal);
+    }
+    let shown = run::provisional::provisional(run, levels, size as usize, out);
+    let state_word = flag_of(shown.done);
+    answers::answer_value(shown.refusal, state_word, state)
 }
 
 // Public: works the allowance of rows or what is due, the lesser; `done` becomes 1 when all rows are done, else 0. Refusals 1,

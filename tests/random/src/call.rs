@@ -8,6 +8,7 @@ pub enum Name {
     Continue,
     Collect,
     Threshold,
+    Provisional,
     Open,
     Close,
     OpeningLevels,
@@ -34,12 +35,13 @@ pub enum Field {
 }
 
 impl Name {
-    pub const ALL: [Name; 13] = [
+    pub const ALL: [Name; 14] = [
         Name::StartErosion,
         Name::StartDilation,
         Name::Continue,
         Name::Collect,
         Name::Threshold,
+        Name::Provisional,
         Name::Open,
         Name::Close,
         Name::OpeningLevels,
@@ -57,6 +59,7 @@ impl Name {
             Name::Continue => "wt_continue",
             Name::Collect => "wt_collect",
             Name::Threshold => "wt_threshold",
+            Name::Provisional => "wt_provisional",
             Name::Open => "wt_open",
             Name::Close => "wt_close",
             Name::OpeningLevels => "wt_opening_levels",
@@ -77,6 +80,7 @@ impl Name {
             Name::Continue => &[1, 10, 11, 12],
             Name::Collect => &[1, 10, 11, 13],
             Name::Threshold => &[1, 8, 10, 11, 13],
+            Name::Provisional => &[1, 8, 10, 11],
             Name::Open => &[2, 3, 4, 5, 6, 7, 8, 10, 11],
             Name::OpeningLevels => &[2, 3, 4, 5, 6, 7, 10, 11],
             Name::Close | Name::ClosingLevels => &[2, 3, 4, 5, 6, 7, 8, 9, 10, 11],
@@ -102,7 +106,7 @@ impl Name {
             Name::Reflect => &[Cells, BytesOut],
             Name::ReadPbm => &[File, BytesOut, WordsOut],
             Name::WritePbm => &[Sheet, BytesOut, WordsOut],
-            Name::WritePgm => &[Record, Levels, BytesOut, WordsOut],
+            Name::Provisional | Name::WritePgm => &[Record, Levels, BytesOut, WordsOut],
         }
     }
 
@@ -125,6 +129,7 @@ impl Name {
             Name::StartDilation
                 | Name::Continue
                 | Name::Threshold
+                | Name::Provisional
                 | Name::Open
                 | Name::Close
                 | Name::ClosingLevels
@@ -160,7 +165,7 @@ pub struct Call {
     pub work_b: Vec<u16>,
     pub bytes_out: Vec<u8>,
     pub levels_out: Vec<u16>,
-    /// A start's record, `done`, `frame` or `length`.
+    /// A start's record, `done`, `state`, `frame` or `length`.
     pub words_out: Vec<u64>,
 }
 

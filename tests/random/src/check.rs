@@ -4,6 +4,7 @@ use crate::call::{Call, Field, Name};
 use crate::damage::damage;
 use crate::definitions;
 use crate::dice::Dice;
+use crate::looks::{check_looks, Cuts};
 use crate::raw::perform;
 use crate::report::{describe, describe_difference, Tally};
 use crate::rules::{due_length, element_set, frame_points, judge, pack, sheet_set, Record};
@@ -63,7 +64,7 @@ pub fn check_calls(tally: &mut Tally, dice: &mut Dice, scale: Scale) {
 
 /// A call on a run, with answer slices of the due length; they stay empty where a start gave no sound record, and the
 /// call is then refused.
-fn call_on_run(name: Name, record: &[u64], levels: &[u16], number: u64) -> Call {
+pub fn call_on_run(name: Name, record: &[u64], levels: &[u16], number: u64) -> Call {
     let mut call = Call::new(name);
     call.record = record.to_vec();
     call.levels = levels.to_vec();
@@ -100,7 +101,7 @@ pub fn check_series(tally: &mut Tally, dice: &mut Dice, start: &Call) {
             }
         }
         if dice.percent(20) {
-            for name in [Name::Collect, Name::Threshold] {
+            for name in [Name::Collect, Name::Threshold, Name::Provisional] {
                 check(tally, &call_on_run(name, &record, &levels, 0));
             }
         }
@@ -248,6 +249,7 @@ pub fn check_runs(tally: &mut Tally, dice: &mut Dice, scale: Scale) {
         let start = sound_call(dice, name, scale);
         check_run(tally, &start);
         check_series(tally, dice, &start);
+        check_looks(tally, &start, Cuts::Random(dice.word()));
     }
 }
 

@@ -128,7 +128,7 @@ fn damage_number(dice: &mut Dice, call: &mut Call) {
         1 << 63,
         u64::MAX,
     ]);
-    if call.name == Name::Threshold && dice.percent(30) {
+    if matches!(call.name, Name::Threshold | Name::Provisional) && dice.percent(30) {
         // Just above the cap of a dilation.
         if let Some(record) = Record::read(&call.record) {
             call.number = record.most_size() + 1;

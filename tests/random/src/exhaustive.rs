@@ -3,6 +3,7 @@
 
 use crate::call::{Call, Field, Name};
 use crate::check::{check, check_run};
+use crate::looks::{check_looks, Cuts};
 use crate::report::Tally;
 use crate::rules::pack;
 use crate::sound::lend_due_lengths;
@@ -46,8 +47,10 @@ pub fn check_small_sheets(tally: &mut Tally) {
                 check(tally, &make(Name::Close, 1));
                 check(tally, &make(Name::OpeningLevels, 0));
                 check(tally, &make(Name::ClosingLevels, 2));
-                check_run(tally, &make(Name::StartErosion, 0));
-                check_run(tally, &make(Name::StartDilation, 2));
+                for start in [make(Name::StartErosion, 0), make(Name::StartDilation, 2)] {
+                    check_run(tally, &start);
+                    check_looks(tally, &start, Cuts::EveryRow);
+                }
             }
         }
     }

@@ -4,8 +4,8 @@
 //!
 //! First come the sheets worked by hand, the largest sheets, and all calls of a small scale; then the random rounds.
 //! Every round makes random calls of every function, sound and damaged, and compares the number and every lent slice
-//! with what the rules say; and it works runs of both kinds, whole and in slices, and compares them with the
-//! definitions. The same seed and rounds give the same calls. `--trace` prints each call to standard error before it is
+//! with what the rules say; and it works runs of both kinds, whole and in slices, looks at them at their cuts, and
+//! compares them with the definitions. The same seed and rounds give the same calls. `--trace` prints each call to standard error before it is
 //! made, for a library that crashes. The last line is `random: N passed, M failed`, and the exit status is 0 exactly
 //! when M is 0.
 #![deny(unsafe_code)]
@@ -18,6 +18,7 @@ mod definitions;
 mod dice;
 mod exhaustive;
 mod guarded;
+mod looks;
 mod raw;
 mod report;
 mod rules;
@@ -89,6 +90,7 @@ fn expected_tests() -> Tally {
         ] {
             tally.expect(format!("{kind} runs, {what}, equal the definitions"));
         }
+        tally.expect(looks::test_of(kind));
     }
     tally
 }

@@ -48,6 +48,8 @@ pub fn perform(call: &Call) -> Result<(u32, Call), String> {
             Name::Collect => c::wt_collect(record_at, record_len, levels_at, levels_len, out_at, out_len),
             Name::Threshold => c::wt_threshold(record_at, record_len, levels_at, levels_len, number,
                 bytes_at, bytes_len),
+            Name::Provisional => c::wt_provisional(record_at, record_len, levels_at, levels_len, number,
+                bytes_at, bytes_len, words_at, words_len),
             Name::Open => c::wt_open(width, height, sheet_at, sheet_len, side, cells_at, cells_len, number,
                 a_at, a_len, b_at, b_len, bytes_at, bytes_len),
             Name::Close => c::wt_close(width, height, sheet_at, sheet_len, side, cells_at, cells_len, number,

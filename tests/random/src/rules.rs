@@ -43,7 +43,7 @@ fn applies(call: &Call, number: u32) -> bool {
                 let maximum = record_of(call).maximum();
                 call.levels.iter().any(|level| u64::from(*level) > maximum)
             }
-            Name::Threshold => call.number > record_of(call).most_size(),
+            Name::Threshold | Name::Provisional => call.number > record_of(call).most_size(),
             Name::Open => call.number > 4096,
             _ => call.number > 2047,
         },
@@ -88,7 +88,7 @@ pub fn due_length(call: &Call, field: Field) -> u128 {
         (Name::StartErosion | Name::StartDilation, Field::WordsOut) => RECORD_WORDS as u128,
         (Name::ReadPbm, Field::WordsOut) => 2,
         (_, Field::WordsOut) => 1,
-        (Name::Continue | Name::Collect | Name::Threshold, Field::Levels) => {
+        (Name::Continue | Name::Collect | Name::Threshold | Name::Provisional, Field::Levels) => {
             let record = record_of(call);
             u128::from(record.area_width()) * u128::from(record.area_height())
         }
@@ -105,7 +105,7 @@ pub fn due_length(call: &Call, field: Field) -> u128 {
             };
             (u128::from(call.width) + 2 * margin) * (u128::from(call.height) + 2 * margin)
         }
-        (Name::Threshold, Field::BytesOut) => {
+        (Name::Threshold | Name::Provisional, Field::BytesOut) => {
             let record = record_of(call);
             frame_bytes(record.width, record.height)
         }
@@ -398,21 +398,10 @@ fn accept(call: &mut Call) {
                 }
             }
         }
-        Name::Threshold => {
-            let record = record_of(call);
-            let flags: Vec<bool> = record
-                .frame_levels(&call.levels)
-                .into_iter()
-                .map(u64::from)
-                .map(|level| {
-                    if record.dilation {
-                        1 <= level && level <= call.number + 1
-                    } else {
-                        level > call.number
-                    }
-                })
-                .collect();
-            call.bytes_out = pack(record.width, &flags);
+        Name::Threshold => call.bytes_out = thresholded(call),
+        Name::Provisional => {
+            call.bytes_out = thresholded(call);
+            call.words_out = vec![u64::from(record_of(call).is_finished())];
         }
         Name::Open => {
             let opened = definitions::opened(&sheet(), &element(), call.number);
@@ -446,6 +435,24 @@ fn accept(call: &mut Call) {
         Name::WritePbm => write(call, &pbm_file(call)),
         Name::WritePgm => write(call, &pgm_file(&record_of(call), &call.levels)),
     }
+}
+
+/// The sheet that a run's levels hold at the call's size.
+fn thresholded(call: &Call) -> Vec<u8> {
+    let record = record_of(call);
+    let flags: Vec<bool> = record
+        .frame_levels(&call.levels)
+        .into_iter()
+        .map(u64::from)
+        .map(|level| {
+            if record.dilation {
+                1 <= level && level <= call.number + 1
+            } else {
+                level > call.number
+            }
+        })
+        .collect();
+    pack(record.width, &flags)
 }
 
 fn clear_work(call: &mut Call) {

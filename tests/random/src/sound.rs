@@ -230,8 +230,11 @@ fn record(dice: &mut Dice, call: &mut Call, scale: Scale) {
             call.record[5] = dice.between(0, record.rows_due());
             call.number = allowance(dice, record.rows_due());
         }
-        Name::Threshold => {
-            call.record[5] = record.rows_due();
+        Name::Threshold | Name::Provisional => {
+            // A look takes any rows done, a threshold all of them.
+            let any = call.name == Name::Provisional && dice.percent(70);
+            let least = if any { 0 } else { record.rows_due() };
+            call.record[5] = dice.between(least, record.rows_due());
             call.number = match dice.below(4) {
                 0 => dice.between(0, record.most_size()),
                 1 => record.most_size(),
