@@ -1,15 +1,15 @@
 -- Where the series ends the run is an unbroken scan, and the finished run is what the rows still due make of it. They never raise a
 -- level and lower none to 0, so a level that an erosion ends with above the size is above it before, and one that a dilation has
 -- from 1 to the size and one ends there too. What the finished levels hold is the right set, by demand 2.
-use Prim.Native.Nat.{ℕ, suc, _+_, _-_, _*_, _≤_, _<_}
+use Prim.Native.Nat.{ℕ, _+_, _-_, _*_, _≤_, _<_}
 use native.Mathlib.Omega.{arith}
 use mathlib.Core.Path.{_≡_, refl, sym, ap, subst, _∙_}
 use mathlib.Core.Bool.{Bool, true, false, cond}
+use mathlib.Core.Logic.{_↔_}
 use mathlib.Core.List.{List, [], _∷_}
-use lib.Dec.{eqb, leb}
+use lib.Dec.{eqb}
 use lib.ListN.{length, getD}
-use borrow.Author.Tests.{eq-eqb, ne-eqb, eqb-true, lt-ltb, ltb-true, le-leb, leb-true}
-use Rattle.basics.proofs.BoundLaws.{both}
+use borrow.Author.Tests.{eq-eqb, ne-eqb, eqb-true, lt-ltb, ltb-true}
 use Rattle.sheet.specs.Sheets.{rowBytes, pixel}
 use Rattle.sheet.specs.Means.{SheetMeans}
 use Rattle.scan.specs.Scan.{scanRows}
@@ -21,7 +21,8 @@ use Rattle.run.specs.Pictures.{frameLevel, isHeldAt, thresholded, sizeLimit}
 use Rattle.run.specs.Provisional.{ShowsProvisional}
 use Rattle.run.specs.Series.{Started, State, Slice, Allowed, IsSeries, atStart, next, after, rowsWorked}
 use Rattle.run.specs.Demand2.{finished}
-use Rattle.run.proofs.Demand2.{thresholded-at}
+use Rattle.run.proofs.LevelLaws.{range-iff}
+use Rattle.run.proofs.Demand2.{thresholded-at, pixel-iff}
 use Rattle.run.proofs.Demand3.{cuts-do-not-show, look-given}
 use Rattle.demands.specs.Demand3.{RightSet}
 use Rattle.demands.specs.CutRuns.{Shown, EveryCut, FinalIsOrdinary}
@@ -59,10 +60,8 @@ module _ (r : Record) (n lower level : ℕ) (l : lower ≤ level) where
 
   held-after : isErosion r ≡ false → (0 < level → 0 < lower) → isHeldAt r n level ≡ true → isHeldAt r n lower ≡ true
   held-after k positive h =
-      let (some, most) = both (leb 1 level) (leb level (suc n)) (rw k at h) in
-      let p = positive (leb-true 1 level some) in
-      let q = leb-true level (suc n) most in
-      rw (k, le-leb 1 lower p, le-leb lower (suc n) (omega arith))
+      let (some, most) = range-iff n level .1 (rw k at h) in
+      rw k (range-iff n lower .0 (positive some, omega arith))
 
 -- so with the pixels of levels and of what more rows make of them
 module _ (r : Record) (levels : List ℕ) (done count n row col : ℕ) (a : row < r .height) (b : col < r .width) where
@@ -72,26 +71,21 @@ module _ (r : Record) (levels : List ℕ) (done count n row col : ℕ) (a : row 
   abbrev Seen : List ℕ → Type 0
   Seen l = pixel (r .width) (thresholded r l n) row col ≡ 1
 
-  held : (l : List ℕ) → Seen l → isHeldAt r n (frameLevel r l row col) ≡ true
-  held l e = go _ (sym (thresholded-at r l n row col a b) ∙ e)
-    where
-      go : (t : Bool) → _≡_ {A = ℕ} (cond t 1 0) 1 → t ≡ true
-      go true e = refl
-      go false e = absurd (omega arith)
-
-  seen : (l : List ℕ) → isHeldAt r n (frameLevel r l row col) ≡ true → Seen l
-  seen l e = thresholded-at r l n row col a b ∙ ap (λ t. cond t 1 0) e
+  seen-iff : (l : List ℕ) → Seen l ↔ (isHeldAt r n (frameLevel r l row col) ≡ true)
+  seen-iff l = pixel-iff _ _ (thresholded-at r l n row col a b) (λ e. e) (λ e. e)
 
   lower : frameLevel r later row col ≤ frameLevel r levels row col
   lower = rows-lower (areaOf r) done count levels _
 
   seen-before : isErosion r ≡ true → Seen later → Seen levels
-  seen-before k e = seen levels (held-before r n (frameLevel r later row col) (frameLevel r levels row col) lower k (held later e))
+  seen-before k e =
+      seen-iff levels .1 (held-before r n (frameLevel r later row col) (frameLevel r levels row col) lower k
+      (seen-iff later .0 e))
 
   seen-after : isErosion r ≡ false → Seen levels → Seen later
   seen-after k e =
-      seen later (held-after r n (frameLevel r later row col) (frameLevel r levels row col) lower k
-      (rows-positive (areaOf r) done count levels _) (held levels e))
+      seen-iff later .1 (held-after r n (frameLevel r later row col) (frameLevel r levels row col) lower k
+      (rows-positive (areaOf r) done count levels _) (seen-iff levels .0 e))
 
 -- a started run of which n rows are done
 module _ {r : Record} {levels : List ℕ} (started : Started r levels) (n : ℕ) (within : n ≤ due r) where

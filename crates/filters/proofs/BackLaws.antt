@@ -1,15 +1,14 @@
 -- The way back, of either kind: its record is sound, its area is the first run's, and its start stands on the set that the
 -- first run holds.
-use Prim.Native.Nat.{ℕ, suc, _+_, _*_, _≤_, _<_}
+use Prim.Native.Nat.{ℕ, _+_, _*_, _<_}
 use native.Mathlib.Nat.{zero-mul}
 use native.Mathlib.Omega.{arith}
 use mathlib.Core.Path.{_≡_, refl, sym, ap, ap₂, _∙_}
-use mathlib.Core.Bool.{Bool, true, false, cond, _&&_, _||_, false≢true}
+use mathlib.Core.Bool.{Bool, true, false, cond, _||_, false≢true}
 use mathlib.Core.Logic.{_↔_}
 use mathlib.Core.List.{List}
-use lib.Dec.{leb}
 use lib.ListN.{length, getD}
-use borrow.Author.Tests.{le-ltb, le-leb, leb-true}
+use borrow.Author.Tests.{le-ltb}
 use Rattle.basics.proofs.Arithmetic.{entry-below}
 use Rattle.sheet.proofs.FrameLaws.{side-fits}
 use Rattle.basics.specs.Limits.{longestSide}
@@ -26,18 +25,6 @@ use Rattle.run.specs.Records.{isErosion, areaWidth, areaHeight, areaOf, element
 use Rattle.run.specs.Pictures.{isHeldAt}
 use Rattle.run.proofs.RecordLaws.{Sound, sound}
 use Rattle.filters.specs.Back.{back, onOf, offOf, backStart}
-
--- a level from 1 to n + 1, as a test
-pub range-iff : (n level : ℕ) → ((0 < level) × (level ≤ suc n)) ↔ (leb 1 level && leb level (suc n) ≡ true)
-range-iff n level = (
-  (λ h. rw (le-leb 1 level (h .0), le-leb level (suc n) (h .1))),
-  both (leb 1 level) (leb level (suc n)) refl refl,
-)
-  where
-    both : (a b : Bool) → leb 1 level ≡ a → leb level (suc n) ≡ b → a && b ≡ true → (0 < level) × (level ≤ suc n)
-    both true true p q h = (leb-true 1 level p, leb-true level (suc n) q)
-    both true false p q h = absurd (false≢true h)
-    both false b p q h = absurd (false≢true h)
 
 module _ (r : Record) where
   pub back-width : areaWidth (back r) ≡ areaWidth r

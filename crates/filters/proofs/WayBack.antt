@@ -36,6 +36,7 @@ use Rattle.run.specs.Records.{margin, areaWidth, areaHeight, areaOf, due, forei
 use Rattle.run.specs.Starting.{startRecord, startLevels}
 use Rattle.run.specs.Pictures.{frameLevel, isHeldAt}
 use Rattle.run.specs.Demand2.{finished}
+use Rattle.run.proofs.LevelLaws.{range-iff}
 use Rattle.run.proofs.RecordLaws.{sound}
 use Rattle.run.proofs.ScanCells.{partners-erosion, partners-dilation}
 use Rattle.run.proofs.Started.{length-start}
@@ -43,7 +44,7 @@ use Rattle.run.proofs.Demand2.{cells-mean, erosion-start, dilation-start}
 use Rattle.filters.specs.Back.{back, backStart, wayBack}
 use Rattle.filters.proofs.Opening.{OpeningStart, opening-at, dilated-held}
 use Rattle.filters.proofs.Closing.{onMargin, closing-at}
-use Rattle.filters.proofs.BackLaws.{range-iff, back-width, back-height, back-taken, marks-decide, marks-size, marks-on}
+use Rattle.filters.proofs.BackLaws.{back-width, back-height, back-taken, marks-decide, marks-size, marks-on}
 use Rattle.filters.proofs.BackLaws.{marks-off}
 
 -- the frame's points that are held after the way back are those of F n, for every size up to a limit

@@ -11,7 +11,7 @@ use mathlib.Core.List.{List}
 use lib.Dec.{leb, ltb}
 use lib.IntN.{pos}
 use lib.ListN.{getD}
-use borrow.Author.Tests.{lt-ltb, le-leb, lt-leb, ltb-true, leb-true, leb-false}
+use borrow.Author.Tests.{lt-ltb, ltb-true, leb-false}
 use Rattle.basics.proofs.TableLaws.{getD-raster}
 use Rattle.grid.specs.Points.{at, neg}
 use Rattle.grid.specs.Sets.{PointSet, eroded, dilated, _≈_}
@@ -39,6 +39,7 @@ use Rattle.run.specs.Starting.{startRecord, startLevels}
 use Rattle.run.specs.Pictures.{frameLevel, collectedLevel, collected, isHeldAt, thresholded}
 use Rattle.run.specs.Series.{erosion, dilation}
 use Rattle.run.specs.Demand2.{finished, ErosionPicture, DilationPicture}
+use Rattle.run.proofs.LevelLaws.{range-iff}
 use Rattle.run.proofs.RecordLaws.{Sound, sound}
 use Rattle.run.proofs.ScanCells.{partners-erosion, partners-dilation}
 use Rattle.run.proofs.Starts.{judged, erosion-taken, dilation-taken}
@@ -72,7 +73,7 @@ thresholded-at r levels n row col a b =
     (λ i j c d. small (isHeldAt r n (frameLevel r levels i j))) row col a b
 
 -- a pixel is 1 exactly where its test holds
-pixel-iff : {P : Type 0} (v : ℕ) (t : Bool) → v ≡ cond t 1 0 → (t ≡ true → P) → (P → t ≡ true) → (v ≡ 1) ↔ P
+pub pixel-iff : {P : Type 0} (v : ℕ) (t : Bool) → v ≡ cond t 1 0 → (t ≡ true → P) → (P → t ≡ true) → (v ≡ 1) ↔ P
 pixel-iff v true e f g = ((λ _. f refl), (λ _. e))
 pixel-iff v false e f g = ((λ q. absurd (omega arith)), (λ p. absurd (false≢true (g p))))
 
@@ -159,23 +160,11 @@ cap-iff R n level l = go (leb level (suc R)) refl
   where
     go : (t : Bool) → leb level (suc R) ≡ t
         → ((0 < cond t level 0) × (cond t level 0 ≤ suc n)) ↔ (leb 1 level && leb level (suc n) ≡ true)
-    go true e = (
-      (λ h. rw (le-leb 1 level (h .0), le-leb level (suc n) (h .1))),
-      (λ h. both (leb 1 level) (leb level (suc n)) refl refl h),
+    go true e = range-iff n level
+    go false e = (
+      (λ h. absurd (let z = h .0 in omega arith)),
+      (λ h. absurd (let f = leb-false level (suc R) e in let q = range-iff n level .1 h .1 in omega arith)),
     )
-      where
-        both : (a b : Bool) → leb 1 level ≡ a → leb level (suc n) ≡ b → a && b ≡ true → (0 < level) × (level ≤ suc n)
-        both true true p q h = (leb-true 1 level p, leb-true level (suc n) q)
-        both true false p q h = absurd (false≢true h)
-        both false b p q h = absurd (false≢true h)
-    go false e = ((λ h. absurd (let z = h .0 in omega arith)), (λ h. absurd (never (leb 1 level) h)))
-      where
-        never : (a : Bool) → a && leb level (suc n) ≡ true → ⊥
-        never a h = let f = leb-false level (suc R) e in false≢true (sym (drop-last a (lt-leb level (suc n) (omega arith))) ∙ h)
-          where
-            drop-last : (a : Bool) → leb level (suc n) ≡ false → a && leb level (suc n) ≡ false
-            drop-last true z = z
-            drop-last false z = refl
 
 module _ (width height : ℕ) (sheet : List ℕ) (side : ℕ) (bytes : List ℕ) (R : ℕ) (given : Accepted side bytes)
     (s : Sound (startRecord 2 width height R side bytes)) where

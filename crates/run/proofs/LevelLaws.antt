@@ -1,11 +1,12 @@
 -- What the tests on one number decide: a pixel or a kind that is 1, a level within a limit, a level that is held.
-use Prim.Native.Nat.{ℕ, _≤_, _<_}
+use Prim.Native.Nat.{ℕ, suc, _≤_, _<_}
 use native.Mathlib.Omega.{arith}
 use mathlib.Core.Path.{_≡_, refl}
 use mathlib.Core.Bool.{Bool, true, false, cond, _&&_, _||_}
-use mathlib.Core.Logic.{_≢_}
+use mathlib.Core.Logic.{_≢_, _↔_}
 use lib.Dec.{eqb, leb, ltb}
-use borrow.Author.Tests.{lt-ltb, le-ltb, le-leb, lt-leb, eq-eqb, ne-eqb}
+use borrow.Author.Tests.{lt-ltb, le-ltb, le-leb, lt-leb, leb-true, eq-eqb, ne-eqb}
+use Rattle.basics.proofs.BoundLaws.{both}
 use Rattle.row.specs.RowRule.{none}
 use Rattle.run.specs.Patches.{limitedTo, heldBetween}
 
@@ -35,6 +36,13 @@ module _ (limit level : ℕ) where
   pub limited-cut : level ≤ none → limit < level → 0 ≡ limitedTo limit level
   unfolding limitedTo
   limited-cut small l = rw (ne-eqb limit none (λ e. omega arith), lt-leb level limit l)
+
+-- a level from 1 to n + 1, as a test
+pub range-iff : (n level : ℕ) → ((0 < level) × (level ≤ suc n)) ↔ (leb 1 level && leb level (suc n) ≡ true)
+range-iff n level = (
+  (λ h. rw (le-leb 1 level (h .0), le-leb level (suc n) (h .1))),
+  (λ h. let (some, most) = both (leb 1 level) (leb level (suc n)) h in (leb-true 1 level some, leb-true level (suc n) most)),
+)
 
 pub no-limit : (level : ℕ) → limitedTo none level ≡ level
 unfolding limitedTo
