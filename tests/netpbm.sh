@@ -14,6 +14,12 @@ library=${WALUGTIRIM_LIB_DIR:-$root/target/staticlib}
 [ -d "$library" ] && library=$(cd "$library" && pwd)
 work=$root/target/netpbm
 . "$root/tests/counted.sh"
+. "$root/tests/processor.sh"
+
+# The library's side, tests/netpbm.c.
+driver() {
+    emulated ./driver "$@"
+}
 
 # The pixels of a PBM as Netpbm reads them: all digits on one line.
 netpbm_pixels() {
@@ -73,20 +79,20 @@ for frame in "1 1" "7 3" "8 3" "9 5" "1 20" "31 17" "35 2" "36 2" "100 4" "333 3
     width=${frame% *}
     height=${frame#* }
     name=sheet-$width-$height
-    pixels=$(./driver sheet "$width" "$height" "$width$height" "$name.pbm" | tr -d '\n')
+    pixels=$(driver sheet "$width" "$height" "$width$height" "$name.pbm" | tr -d '\n')
     check "PBM $width by $height: kind and frame" is_kind "$name.pbm" "PBM raw, $width by $height"
     check "PBM $width by $height: pixels" same "$pixels" "$(netpbm_pixels "$name.pbm")"
     check "PBM $width by $height: the bytes of Netpbm's writer" same_bytes "$name.pbm"
-    check "PBM $width by $height: read back" same "$pixels" "$(./driver pixels "$name.pbm" | tr -d '\n')"
+    check "PBM $width by $height: read back" same "$pixels" "$(driver pixels "$name.pbm" | tr -d '\n')"
 
     larger=$((width > height ? width : height))
-    levels=$(./driver erosion "$name.pbm" "$name-erosion.pgm" | tr -s ' \n' '\n')
+    levels=$(driver erosion "$name.pbm" "$name-erosion.pgm" | tr -s ' \n' '\n')
     check "PGM of an erosion, $width by $height: kind, frame, maximum" \
         is_kind "$name-erosion.pgm" "PGM plain, $width by $height *maxval $larger\$"
     check "PGM of an erosion, $width by $height: levels" same "$levels" "$(netpbm_levels "$name-erosion.pgm")"
     check "PGM of an erosion, $width by $height: lines" lines_are_short "$name-erosion.pgm"
 
-    levels=$(./driver dilation "$name.pbm" 12 "$name-dilation.pgm" | tr -s ' \n' '\n')
+    levels=$(driver dilation "$name.pbm" 12 "$name-dilation.pgm" | tr -s ' \n' '\n')
     check "PGM of a dilation, $width by $height: kind, frame, maximum" \
         is_kind "$name-dilation.pgm" "PGM plain, $width by $height *maxval 13\$"
     check "PGM of a dilation, $width by $height: levels" same "$levels" "$(netpbm_levels "$name-dilation.pgm")"
@@ -100,7 +106,7 @@ done
 
 # Levels of two and three digits: a black square, 300 by 300.
 pbmmake -black 300 300 >square.pbm
-levels=$(./driver erosion square.pbm square.pgm | tr -s ' \n' '\n')
+levels=$(driver erosion square.pbm square.pgm | tr -s ' \n' '\n')
 check "PGM of a black square: levels" same "$levels" "$(netpbm_levels square.pgm)"
 check "PGM of a black square: lines" lines_are_short square.pgm
 check "PGM of a black square: largest level by pamsumm" same 150 "$(pamsumm -max -brief square.pgm | tr -d ' ')"
@@ -116,14 +122,14 @@ pnmpad -white -left=3 -top=2 -right=5 -bottom=1 text.pbm | pnmtopnm >padded.pbm
 pbmmake -black 4096 2 >widest.pbm
 pbmmake -white 2 4096 >tallest.pbm
 for name in white black gray text dither ellipse padded widest tallest; do
-    check "Netpbm's PBM \"$name\": pixels" same "$(./driver pixels "$name.pbm" | tr -d '\n')" "$(netpbm_pixels "$name.pbm")"
+    check "Netpbm's PBM \"$name\": pixels" same "$(driver pixels "$name.pbm" | tr -d '\n')" "$(netpbm_pixels "$name.pbm")"
 done
 pbmmake -black 4097 1 >too-wide.pbm
 pnmtoplainpnm gray.pbm >plain.pbm
 pgmramp -lr 9 9 >ramp.pgm
-check "Netpbm's PBM of 4,097 columns is refused with 2" same "refused 2" "$(./driver pixels too-wide.pbm)"
-check "Netpbm's plain PBM is refused with 21" same "refused 21" "$(./driver pixels plain.pbm)"
-check "Netpbm's PGM is refused with 21" same "refused 21" "$(./driver pixels ramp.pgm)"
+check "Netpbm's PBM of 4,097 columns is refused with 2" same "refused 2" "$(driver pixels too-wide.pbm)"
+check "Netpbm's plain PBM is refused with 21" same "refused 21" "$(driver pixels plain.pbm)"
+check "Netpbm's PGM is refused with 21" same "refused 21" "$(driver pixels ramp.pgm)"
 
 # 3. Erosion and dilation by Netpbm's own pgmmorphconv, with the cross, step by step. Its template is the white part
 # of a picture and its foreground the bright part, so ours are inverted; a border of background stands for the infinite
@@ -149,9 +155,9 @@ steps() {
 for name in text ellipse dither sheet-31-17; do
     for size in 0 1 2 3; do
         check "\"$name\" eroded by $size, as pgmmorphconv does" \
-            same "$(./driver eroded "$name.pbm" $size eroded.pbm | tr -d '\n')" "$(steps erode $size "$name.pbm")"
+            same "$(driver eroded "$name.pbm" $size eroded.pbm | tr -d '\n')" "$(steps erode $size "$name.pbm")"
         check "\"$name\" dilated by $size, as pgmmorphconv does" \
-            same "$(./driver dilated "$name.pbm" $size dilated.pbm | tr -d '\n')" "$(steps dilate $size "$name.pbm")"
+            same "$(driver dilated "$name.pbm" $size dilated.pbm | tr -d '\n')" "$(steps dilate $size "$name.pbm")"
     done
 done
 

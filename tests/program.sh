@@ -7,17 +7,18 @@ erode=$root/target/bin/erode
 work=$(mktemp -d)
 trap 'rm -rf "$work"' EXIT
 . "$root/tests/counted.sh"
+. "$root/tests/processor.sh"
 
 # prints NAME EXPECTED: the program on $work/in prints exactly the bytes of EXPECTED
 prints() {
-    "$erode" <"$work/in" >"$work/out"
+    emulated "$erode" <"$work/in" >"$work/out"
     printf "$2" >"$work/expected"
     check "$1" cmp -s "$work/out" "$work/expected"
 }
 
 # begins NAME HEADER: what it prints begins with the lines of HEADER
 begins() {
-    "$erode" <"$work/in" >"$work/out"
+    emulated "$erode" <"$work/in" >"$work/out"
     printf "$2" >"$work/expected"
     head -c "$(wc -c <"$work/expected")" "$work/out" >"$work/front"
     check "$1" cmp -s "$work/front" "$work/expected"
