@@ -135,16 +135,18 @@ uint32_t wt_start_dilation(uint64_t width, uint64_t height,
  *   record      55 words, the record last given; its rows done grow by the rows worked, all else stays
  *   levels      the run's levels, as many as its frame (erosion) or canvas (dilation) has points; worked row by row
  *   allowance   rows to work, 0 to 8,192
- *   done        1 word; becomes 1 when all rows are done, else 0
+ *   answer      2 words; the first becomes 1 when all rows are done, else 0, the second the number of points lowered:
+ *               for each row worked, the points whose level after the row is smaller than before it, summed over the rows
  *
- * The rule of the rows is followed for any levels lent, also such that no start gave.
+ * The rule of the rows is followed for any levels lent, also such that no start gave. A row is worked once downward and once
+ * upward, so a point counts at most twice in a run; and however a run is cut, its slices' numbers have the same sum.
  *
- * Refusals, in order: 1, 10, 11 (done not 1 word), 12. A refused call doesn't count towards the rows.
+ * Refusals, in order: 1, 10, 11 (answer not 2 words), 12. A refused call doesn't count towards the rows.
  */
 uint32_t wt_continue(uint64_t *record, size_t record_len,
                      uint16_t *levels, size_t levels_len,
                      uint64_t allowance,
-                     uint64_t *done, size_t done_len);
+                     uint64_t *answer, size_t answer_len);
 
 /*
  * Collects the levels of a finished run.

@@ -26,7 +26,7 @@ int main(void)
     uint16_t levels[POINTS];
     uint16_t picture[POINTS];
     uint64_t record[WT_RECORD_WORDS];
-    uint64_t done[1];
+    uint64_t answer[2];
     uint8_t seen[HEIGHT];
     uint64_t state[1];
     uint32_t number;
@@ -37,10 +37,11 @@ int main(void)
         return refused("start", number);
 
     for (int slice = 0; slice < 2; slice++) {
-        number = wt_continue(record, WT_RECORD_WORDS, levels, POINTS, slices[slice], done, 1);
+        number = wt_continue(record, WT_RECORD_WORDS, levels, POINTS, slices[slice], answer, 2);
         if (number != 0)
             return refused("continue", number);
-        printf("rows done %u, %s\n", (unsigned)record[WT_RECORD_ROWS_DONE], done[0] ? "complete" : "rows still due");
+        printf("rows done %u, %s; points lowered %u\n", (unsigned)record[WT_RECORD_ROWS_DONE],
+               answer[0] ? "complete" : "rows still due", (unsigned)answer[1]);
 
         /* A look at size 1: before the end it may hold too much, at the end it is the eroded sheet. */
         number = wt_provisional(record, WT_RECORD_WORDS, levels, POINTS, 1, seen, sizeof seen, state, 1);

@@ -131,8 +131,8 @@ static Sheet make_sheet(uint64_t width, uint64_t height, uint64_t seed)
 
 static Run finish(Run run)
 {
-    uint64_t done[1];
-    accept(wt_continue(run.record, WT_RECORD_WORDS, run.levels, run.levels_len, WT_MOST_ALLOWANCE, done, 1));
+    uint64_t answer[2];
+    accept(wt_continue(run.record, WT_RECORD_WORDS, run.levels, run.levels_len, WT_MOST_ALLOWANCE, answer, 2));
     return run;
 }
 

@@ -23,8 +23,8 @@ pub fn dilation(sheet: &Sheet, element: &Element, cap: usize, levels: &mut [u16]
 }
 
 fn finished(mut record: Record, levels: &mut [u16]) -> Record {
-    let done = accepted(lent::continue_run(&mut record, levels, MOST_ALLOWANCE));
-    assert!(done, "all rows are worked in one slice");
+    let continued = accepted(lent::continue_run(&mut record, levels, MOST_ALLOWANCE));
+    assert!(continued.done, "all rows are worked in one slice");
     record
 }
 

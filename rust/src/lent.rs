@@ -77,7 +77,17 @@ pub fn start_dilation(given: Given, cap: u64, levels: &mut [u16]) -> Result<Reco
     Ok(record)
 }
 
-/// Works so many rows, or those still due where these are fewer. Answers whether all are done.
+/// What a slice of rows answers.
+#[derive(Clone, Copy, Debug, PartialEq, Eq)]
+pub struct Continued {
+    /// Whether all rows are done.
+    pub done: bool,
+    /// How many points the rows lowered: for each row those whose level after it is smaller than before it. A slice
+    /// that crossed blank rows has 0 here.
+    pub lowered: u64,
+}
+
+/// Works so many rows, or those still due where these are fewer.
 ///
 /// # Errors
 /// 1, 10, 12, the first that applies.
@@ -85,8 +95,8 @@ pub fn continue_run(
     record: &mut Record,
     levels: &mut [u16],
     allowance: u64,
-) -> Result<bool, Refusal> {
-    let mut done = [0];
+) -> Result<Continued, Refusal> {
+    let mut answer = [0; 2];
     let number = unsafe {
         c::wt_continue(
             record.as_mut_ptr(),
@@ -94,12 +104,15 @@ pub fn continue_run(
             levels.as_mut_ptr(),
             levels.len(),
             allowance,
-            done.as_mut_ptr(),
-            done.len(),
+            answer.as_mut_ptr(),
+            answer.len(),
         )
     };
     Refusal::check(number)?;
-    Ok(done[0] == 1)
+    Ok(Continued {
+        done: answer[0] == 1,
+        lowered: answer[1],
+    })
 }
 
 /// Gives the levels of the frame, once all rows are done.

@@ -11,7 +11,7 @@
 //! # fn main() -> Result<(), walugtirim::Refusal> {
 //! let sheet = Sheet::new(3, 3, vec![0xE0; 3]);
 //! let mut run = Run::start_erosion(&sheet, &Element::cross())?;
-//! while !run.continue_by(2)? {}
+//! while !run.continue_by(2)?.done {}
 //! assert_eq!(run.collect()?, [1, 1, 1, 1, 2, 1, 1, 1, 1]);
 //! # Ok(())
 //! # }
@@ -26,6 +26,7 @@ pub mod lent;
 mod refusal;
 mod room;
 
+pub use lent::Continued;
 pub use refusal::Refusal;
 
 use lent::{Given, Record, State};
@@ -301,11 +302,28 @@ impl Run {
         self.record[5]
     }
 
-    /// Works so many rows (0 to 8192), or those still due where these are fewer. Answers whether all are done.
+    /// Works so many rows (0 to 8192), or those still due where these are fewer. Answers whether all are done, and how
+    /// many points the rows lowered; however a run is cut, its slices' numbers have the same sum.
+    ///
+    /// ```
+    /// use walugtirim::{Element, Run, Sheet};
+    ///
+    /// # fn main() -> Result<(), walugtirim::Refusal> {
+    /// let sheet = Sheet::new(3, 3, vec![0xE0; 3]);
+    /// let mut run = Run::start_erosion(&sheet, &Element::cross())?;
+    /// let (first, second) = (run.continue_by(2)?, run.continue_by(4)?);
+    /// assert!(!first.done && second.done);
+    /// assert_eq!((first.lowered, second.lowered), (6, 6));
+    ///
+    /// let mut whole = Run::start_erosion(&sheet, &Element::cross())?;
+    /// assert_eq!(whole.continue_by(6)?.lowered, 12);
+    /// # Ok(())
+    /// # }
+    /// ```
     ///
     /// # Errors
     /// 1, 10 or 12, the lowest that applies; a run that a start gave can only earn 12.
-    pub fn continue_by(&mut self, allowance: u64) -> Result<bool, Refusal> {
+    pub fn continue_by(&mut self, allowance: u64) -> Result<Continued, Refusal> {
         lent::continue_run(&mut self.record, &mut self.levels, allowance)
     }
 
@@ -315,7 +333,7 @@ impl Run {
     /// 1 or 10, where the run is none that a start gave.
     pub fn finish(&mut self) -> Result<(), Refusal> {
         // 2 * 4096 rows at most are due, so the first slice ends it; the loop only spares the reader that proof.
-        while !self.continue_by(MOST_ALLOWANCE)? {}
+        while !self.continue_by(MOST_ALLOWANCE)?.done {}
         Ok(())
     }
 

@@ -37,13 +37,15 @@ fn number<T>(result: Result<T, Refusal>) -> u32 {
 fn full_sheet_and_cross() {
     let sheet = Sheet::new(3, 3, vec![0xE0; 3]);
     let mut run = Run::start_erosion(&sheet, &Element::cross()).unwrap();
-    assert!(!run.continue_by(4).unwrap());
+    let first = run.continue_by(4).unwrap();
+    assert_eq!((first.done, first.lowered), (false, 11));
     assert_eq!(run.rows_done(), 4);
     assert_eq!(number(run.collect()), 13);
     assert_eq!(number(run.threshold(0)), 13);
     assert_eq!(number(run.write_pgm()), 13);
     assert_eq!(number(run.continue_by(8193)), 12);
-    assert!(run.continue_by(8192).unwrap());
+    let last = run.continue_by(8192).unwrap();
+    assert_eq!((last.done, last.lowered), (true, 1));
     assert_eq!(run.collect().unwrap(), [1, 1, 1, 1, 2, 1, 1, 1, 1]);
     assert_eq!(run.threshold(1).unwrap().bytes, [0, 0x40, 0]);
     assert_eq!(run.threshold(2).unwrap().bytes, [0, 0, 0]);
@@ -52,12 +54,19 @@ fn full_sheet_and_cross() {
 }
 
 #[test]
+fn a_blank_slice_lowers_nothing() {
+    let blank = Sheet::background(9, 5);
+    let mut run = Run::start_erosion(&blank, &Element::cross()).unwrap();
+    assert_eq!(run.continue_by(8192).unwrap().lowered, 0);
+}
+
+#[test]
 fn one_neighbour_and_its_reflection() {
     let full = row("11111");
     let mut run = Run::start_erosion(&full, &t()).unwrap();
-    assert!(!run.continue_by(1).unwrap());
+    assert!(!run.continue_by(1).unwrap().done);
     assert_eq!(run.levels(), [65535; 5]);
-    assert!(run.continue_by(1).unwrap());
+    assert!(run.continue_by(1).unwrap().done);
     assert_eq!(run.collect().unwrap(), [5, 4, 3, 2, 1]);
     assert_eq!(erosion(&full, &t().reflect().unwrap()), [1, 2, 3, 4, 5]);
     assert_eq!(dilation(&row("00100"), &t(), 2), [0, 0, 1, 2, 3]);
@@ -169,7 +178,7 @@ fn a_kept_run_goes_on() {
     let sheet = Sheet::new(5, 4, vec![0xF8, 0x78, 0xF0, 0xD8]);
     let whole = dilation(&sheet, &Element::square(), 3);
     let mut run = Run::start_dilation(&sheet, &Element::square(), 3).unwrap();
-    while !run.continue_by(3).unwrap() {
+    while !run.continue_by(3).unwrap().done {
         let (record, levels) = run.into_parts();
         run = Run::from_parts(record, levels);
     }

@@ -9,6 +9,14 @@ pub fn say(case: &[u8], number: u32) {
     io::write_all(STDOUT_FILENO, b"\n");
 }
 
+// What was done, and how many points it lowered.
+pub fn say_count(slice: &[u8], points: usize) {
+    io::write_all(STDOUT_FILENO, slice);
+    io::write_all(STDOUT_FILENO, b", points lowered: ");
+    io::print_decimal(STDOUT_FILENO, points as u64);
+    io::write_all(STDOUT_FILENO, b"\n");
+}
+
 // A call, and whether its answers to the two sheets of case 10 are the same.
 pub fn say_same(call: &[u8], same: bool) {
     io::write_all(STDOUT_FILENO, call);

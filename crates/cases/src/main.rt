@@ -1,10 +1,11 @@
 // Document 01's cases 9 and 10, and a case for each refusal of each public call. The list of cases is read on standard input
 // (the file `stdin`), so a new case is a line there and nothing to prove here; for each the program prints the call, the case and
-// the number answered, 0 where it is accepted.
+// the number answered, 0 where it is accepted. Then case 10, and how many points slices of rows lower.
 use libc::STDIN_FILENO;
 
 mod asking;
 mod calls;
+mod counts;
 mod lines;
 mod lists;
 mod padding;
@@ -16,4 +17,5 @@ fn main() {
     let length = io::read_full(STDIN_FILENO, &mut input);
     lists::answer_all(&input[..length]);
     padding::same_answers();
+    counts::say_counts();
 }

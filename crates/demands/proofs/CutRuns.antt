@@ -16,10 +16,10 @@ use Rattle.scan.specs.Scan.{scanRows}
 use Rattle.scan.proofs.ScanLaws.{rows-add, rows-lower, rows-positive}
 use Rattle.run.specs.declared.Record.{Record}
 use Rattle.run.specs.Records.{isErosion, areaOf, due}
-use Rattle.run.specs.Continuing.{withRows}
+use Rattle.run.specs.Continuing.{State, withRows}
 use Rattle.run.specs.Pictures.{frameLevel, isHeldAt, thresholded, sizeLimit}
 use Rattle.run.specs.Provisional.{ShowsProvisional}
-use Rattle.run.specs.Series.{Started, State, Slice, Allowed, IsSeries, atStart, next, after, rowsWorked}
+use Rattle.run.specs.Series.{Started, Slice, Allowed, IsSeries, atStart, next, after, rowsWorked}
 use Rattle.run.specs.Demand2.{finished}
 use Rattle.run.proofs.LevelLaws.{range-iff}
 use Rattle.run.proofs.Demand2.{thresholded-at, pixel-iff}
@@ -35,7 +35,7 @@ call-lowers s call p place = go (eqb (call .number) 0) refl
     accepted : call .number ≡ 0 → getD (call .answer .2) place 0 ≤ getD (s .2) place 0
     accepted z =
         let lower = rows-lower (areaOf (call .run)) (call .run .rows) _ (call .levels) place in
-        rw (ap (λ (t : State). t .2) (p .outcome .accepted z), sym (p .own z .1)) lower
+        rw (ap (λ (t : State × ℕ). t .0 .2) (p .outcome .accepted z), sym (p .own z .1)) lower
 
     go : (t : Bool) → eqb (call .number) 0 ≡ t → getD (cond t (call .answer) s .2) place 0 ≤ getD (s .2) place 0
     go true e = accepted (eqb-true (call .number) 0 e)

@@ -16,12 +16,12 @@ use Rattle.sheet.specs.Means.{LevelsMean, SheetMeans}
 use Rattle.scan.specs.Scan.{scanRows}
 use Rattle.run.specs.declared.Record.{Record}
 use Rattle.run.specs.Records.{areaOf, due}
-use Rattle.run.specs.Continuing.{withRows}
+use Rattle.run.specs.Continuing.{State, withRows}
 use Rattle.run.specs.Pictures.{sizeLimit, collected, thresholded}
-use Rattle.run.specs.Series.{Started, erosion, dilation, State, unbroken, rowsWorked}
+use Rattle.run.specs.Series.{Started, erosion, dilation, unbroken, rowsWorked}
 use Rattle.run.specs.Demand2.{finished}
 use Rattle.run.proofs.Demand2.{erosion-picture, dilation-picture}
-use Rattle.run.proofs.Demand3.{cuts-do-not-show, released, none-released, unfinished-refused}
+use Rattle.run.proofs.Demand3.{cuts-do-not-show, counts-add-up, released, none-released, unfinished-refused}
 use Rattle.pgm.specs.WritePgm.{picture, pgmRefusals}
 use Rattle.pgm.proofs.Released.{pgm-released, pgm-none-released, pgm-unfinished-refused}
 use Rattle.demands.specs.Demand3.{RightLevel, RightSet, PictureGiven, NoneGiven, RowsWanting, EveryRun}
@@ -118,6 +118,7 @@ every-run r levels started series p =
     let here = cuts-do-not-show r levels started series p in
     let completed = ap (λ (t : State). t .1) here in record {
       cuts = here;
+      counts = counts-add-up r levels started series p;
       completion = ((λ e. eqb-true n (due r) (sym completed ∙ e)), (λ e. completed ∙ eq-eqb n (due r) e));
       released = λ e. subst (λ (t : State). PictureGiven started (t .0) (t .2)) (sym (here ∙ ap (unbroken r levels) e))
           (given started);

@@ -1,6 +1,6 @@
 -- DEMAND 3 in one statement. Take any accepted start and any series of calls, each accepted one with the record last returned
--- and the run's own levels. Cuts do not show; completion is answered exactly when all rows are done; then the picture is that of
--- demand 2; before, none is released.
+-- and the run's own levels. Cuts do not show, in the run and in the points lowered; completion is answered exactly when all rows
+-- are done; then the picture is that of demand 2; before, none is released.
 use Prim.Native.Nat.{ℕ, _*_, _≤_, _<_}
 use mathlib.Core.Path.{_≡_}
 use mathlib.Core.Logic.{_≢_, _↔_}
@@ -17,7 +17,8 @@ use Rattle.sheet.specs.Means.{LevelsMean, SheetMeans}
 use Rattle.run.specs.declared.Record.{Record}
 use Rattle.run.specs.Records.{due}
 use Rattle.run.specs.Pictures.{sizeLimit, collected, Collects, Thresholds}
-use Rattle.run.specs.Series.{Started, erosion, dilation, Slice, IsSeries, atStart, after, unbroken, rowsWorked}
+use Rattle.run.specs.Continuing.{State, Continues}
+use Rattle.run.specs.Series.{Started, erosion, dilation, Slice, IsSeries, atStart, after, counted, unbroken, rowsWorked}
 use Rattle.pgm.specs.WritePgm.{maximum, picture, WritesPgm}
 
 -- the picture that a started run is to give, by demand 2: the level of each point, and the set held at a size
@@ -64,6 +65,9 @@ pub record Demand3 {r : Record} {levels : List ℕ} (started : Started r levels)
   -- record, completion and levels are those of one unbroken scan of as many rows as the accepted allowances sum to, at most the
   -- rows due
   pub cuts : after (atStart r levels) series ≡ unbroken r levels (rowsWorked r series)
+  -- and one unbroken call by so many rows is accepted, leaves the run there, and lowers as many points as all calls together
+  pub counts : (number : ℕ) (answer : State) (lowered : ℕ) → Continues r levels (rowsWorked r series) number (answer, lowered)
+      → (number ≡ 0) × (after (atStart r levels) series ≡ answer) × (counted series ≡ lowered)
   pub completion : (after (atStart r levels) series .1 ≡ true) ↔ (rowsWorked r series ≡ due r)
   pub released : rowsWorked r series ≡ due r
       → PictureGiven started (after (atStart r levels) series .0) (after (atStart r levels) series .2)

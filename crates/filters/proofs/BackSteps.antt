@@ -42,13 +42,13 @@ module _ (r : Record) (taken : foreign r ≡ false) (fresh : r .rows ≡ 0) (lev
       (rw (eq-eqb (length levels) (areaHeight r * areaWidth r) size))
       (omega arith))
 
-  pub finish-rows : {number : ℕ} {next : Record} {done : Bool} {after : List ℕ}
-      → Continues r levels mostRows number (next, done, after) → after ≡ finished r levels
-  finish-rows {number} {next} {done} {after} a =
+  pub finish-rows : {number : ℕ} {next : Record} {done : Bool} {after : List ℕ} {lowered : ℕ}
+      → Continues r levels mostRows number ((next, done, after), lowered) → after ≡ finished r levels
+  finish-rows a =
       let q = a .accepted (a .refusal ∙ continue-taken) in
       let s = sound r taken .area-high in
       let w : min mostRows (due r - r .rows) ≡ due r = let f = fresh in omega arith in
-      ap (λ t. t .2) q ∙ ap₂ (λ d n. scanRows (areaOf r) d n levels) fresh w
+      ap (λ t. t .0 .2) q ∙ ap₂ (λ d n. scanRows (areaOf r) d n levels) fresh w
 
 -- the record of the way back
 pub back-record : (r : Record) (kind width height : ℕ) (cells : List ℕ) → kind ≡ cond (isErosion r) 2 1 → width ≡ areaWidth r

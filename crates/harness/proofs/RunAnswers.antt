@@ -17,7 +17,7 @@ use Rattle.harness.specs.Boundary.{recordWords, wordsOf, recordOf, holds
 use Rattle.harness.specs.Boundary.{atEleven, answered, atLatest}
 use Rattle.harness.specs.Runs.{flag, continueWords, ContinuesWords, ShowsProvisionalWords}
 use Rattle.harness.proofs.AnswerLaws.{upToEleven, latest-refuses, carried-refusal, carried-answer, answer-fits}
-use Rattle.harness.proofs.AnswerLaws.{slice-answers, one-stored}
+use Rattle.harness.proofs.AnswerLaws.{slice-answers, two-stored}
 
 -- STARTING: the record goes into the words
 module _ (refusals : List Refusal) (t : T (numbered refusals)) (levels words : List ℕ)
@@ -44,35 +44,36 @@ start-other refusals t u levels words a e f =
     (f ∙ ap first (sym (append-nil refusals)))
 
 -- CONTINUING
-module _ (words levels : List ℕ) (allowance : ℕ) (done : List ℕ) where
+module _ (words levels : List ℕ) (allowance : ℕ) (answer : List ℕ) where
   module _ (h : holdsNoRecord words ≡ false) (run : Record) (q : run ≡ recordOf words) where
-    pub continue-other : length done ≢ 1 → {number n : ℕ} → number ≡ atLatest n
+    pub continue-other : length answer ≢ 2 → {number n : ℕ} → number ≡ atLatest n
         → n ≡ first (continueRefusals run levels allowance)
-        → ContinuesWords words levels allowance done number (words, levels, done)
+        → ContinuesWords words levels allowance answer number (words, levels, answer)
     continue-other a e f =
         latest-refuses ((1, recordBad (recordOf words)) ∷ (10, levelsWrong (recordOf words) levels) ∷ [])
         ((12, ltb 8192 allowance) ∷ []) tt tt tt
-        (wordsRefusal words ∷ atEleven (answerRefusal 1 done) (continueRefusals (recordOf words) levels allowance))
-        (rw (h, ne-eqb (length done) 1 a)) e (f ∙ ap (λ r. first (continueRefusals r levels allowance)) q)
+        (wordsRefusal words ∷ atEleven (answerRefusal 2 answer) (continueRefusals (recordOf words) levels allowance))
+        (rw (h, ne-eqb (length answer) 2 a)) e (f ∙ ap (λ r. first (continueRefusals r levels allowance)) q)
 
-    module _ (a : length done ≡ 1) (n : ℕ) (next : Record) (all : Bool) (after : List ℕ)
-        (p : Continues run levels allowance n (next, all, after)) where
+    module _ (a : length answer ≡ 2) (n : ℕ) (next : Record) (all : Bool) (after : List ℕ) (lowered : ℕ)
+        (p : Continues run levels allowance n ((next, all, after), lowered)) where
       continue-fits : first (wordsRefusal words ∷
-          atEleven (answerRefusal 1 done) (continueRefusals (recordOf words) levels allowance))
+          atEleven (answerRefusal 2 answer) (continueRefusals (recordOf words) levels allowance))
           ≡ first (continueRefusals (recordOf words) levels allowance)
-      continue-fits = rw (h, eq-eqb (length done) 1 a)
+      continue-fits = rw (h, eq-eqb (length answer) 2 a)
 
-      pub continue-refuses : n ≢ 0 → ContinuesWords words levels allowance done n (words, after, done)
-      continue-refuses z = carried-refusal (rw q at p) continue-fits z (words, after, done) (λ e. ap (λ x. (words, x .2, done)) e)
+      pub continue-refuses : n ≢ 0 → ContinuesWords words levels allowance answer n (words, after, answer)
+      continue-refuses z = carried-refusal (rw q at p) continue-fits z (words, after, answer)
+          (λ e. ap (λ x. (words, x .0 .2, answer)) e)
 
       pub continue-accepts : n ≡ 0 → (written : List ℕ) → written ≡ wordsOf next → (v : ℕ) → v ≡ flag all
-          → ContinuesWords words levels allowance done 0 (written, after, set done 0 v)
+          → ContinuesWords words levels allowance answer 0 (written, after, set (set answer 0 v) 1 lowered)
       continue-accepts z written w v f =
           carried-answer (rw q at p) continue-fits z (
             written,
             after,
-            set done 0 v,
-          ) (λ e. rw (w, one-stored done v a, f) (ap continueWords e))
+            set (set answer 0 v) 1 lowered,
+          ) (λ e. rw (w, two-stored answer v lowered a, f) (ap continueWords e))
 
 -- A LOOK
 module _ (words levels : List ℕ) (size : ℕ) (out state : List ℕ) where

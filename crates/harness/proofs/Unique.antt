@@ -21,9 +21,9 @@ module _ (m n : ℕ) where
       → ThresholdsWords words levels size out n y → (m ≡ n) × (x ≡ y)
   threshold-unique words levels size out x y = rule-unique m n x y
 
-  pub continue-unique : (words levels : List ℕ) (allowance : ℕ) (done : List ℕ) (x y : List ℕ × List ℕ × List ℕ)
-      → ContinuesWords words levels allowance done m x → ContinuesWords words levels allowance done n y → (m ≡ n) × (x ≡ y)
-  continue-unique words levels allowance done x y = rule-unique m n x y
+  pub continue-unique : (words levels : List ℕ) (allowance : ℕ) (answer : List ℕ) (x y : List ℕ × List ℕ × List ℕ)
+      → ContinuesWords words levels allowance answer m x → ContinuesWords words levels allowance answer n y → (m ≡ n) × (x ≡ y)
+  continue-unique words levels allowance answer x y = rule-unique m n x y
 
   module _ (x y : List ℕ × List ℕ) where
     pub read-pbm-unique : (file out frame : List ℕ) → ReadsSheet file out frame m x → ReadsSheet file out frame n y

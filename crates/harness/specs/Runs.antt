@@ -6,10 +6,9 @@ use mathlib.Core.Bool.{Bool, cond}
 use mathlib.Core.List.{List, [], _∷_, _++_}
 use Rattle.basics.specs.Refusals.{Answers}
 use Rattle.row.specs.RowRule.{none}
-use Rattle.run.specs.declared.Record.{Record}
 use Rattle.run.specs.Records.{marginOf}
 use Rattle.run.specs.Starting.{startRecord, startLevels, erosionRefusals, dilationRefusals}
-use Rattle.run.specs.Continuing.{isDone, continueRefusals, continued}
+use Rattle.run.specs.Continuing.{State, isDone, continueRefusals, continued, loweredBy}
 use Rattle.run.specs.Pictures.{collected, collectRefusals, thresholded, thresholdRefusals}
 use Rattle.run.specs.Provisional.{provisionalRefusals}
 use Rattle.harness.specs.Boundary.{recordWords, wordsOf, recordOf, wordsRefusal, answerRefusal, atEleven}
@@ -28,21 +27,21 @@ StartsDilationWords width height sheet side cells cap levels words =
       wordsOf (startRecord 2 width height cap side cells),
     ))
 
--- continuing: the record, the levels, and whether all rows are done, as 1 or 0
+-- continuing: the record, the levels, and two words: whether all rows are done, as 1 or 0, and how many points were lowered
 abbrev pub flag : Bool → ℕ
 flag b = cond b 1 0
 
-abbrev pub continueWords : Record × Bool × List ℕ → List ℕ × List ℕ × List ℕ
-continueWords (run, all, levels) = (wordsOf run, levels, flag all ∷ [])
+abbrev pub continueWords : State × ℕ → List ℕ × List ℕ × List ℕ
+continueWords ((run, all, levels), lowered) = (wordsOf run, levels, flag all ∷ lowered ∷ [])
 
 abbrev pub ContinuesWords : List ℕ → List ℕ → ℕ → List ℕ → ℕ → List ℕ × List ℕ × List ℕ → Type 0
-ContinuesWords words levels allowance done =
-    Answers (wordsRefusal words ∷ atEleven (answerRefusal 1 done) (continueRefusals (recordOf words) levels allowance)) (
+ContinuesWords words levels allowance answer =
+    Answers (wordsRefusal words ∷ atEleven (answerRefusal 2 answer) (continueRefusals (recordOf words) levels allowance)) (
       words,
       levels,
-      done,
+      answer,
     )
-    (λ after. after ≡ continueWords (continued (recordOf words) levels allowance))
+    (λ after. after ≡ continueWords (continued (recordOf words) levels allowance, loweredBy (recordOf words) levels allowance))
 
 -- collecting and thresholding: the output
 abbrev pub CollectsWords : List ℕ → List ℕ → List ℕ → ℕ → List ℕ → Type 0

@@ -68,26 +68,26 @@ pub extern "C" fn wt_provisional(
     answers::answer_value(shown.refusal, state_word, state)
 }
 
-// Public: works the allowance of rows or what is due, the lesser; `done` becomes 1 when all rows are done, else 0. Refusals 1,
-// 10, 11, 12.
+// Public: works the allowance of rows or what is due, the lesser. Of `answer` the first word becomes 1 when all rows are done, else 0,
+// and the second how many points the rows lowered. Refusals 1, 10, 11, 12.
 #[no_mangle]
 pub extern "C" fn wt_continue(
     words: &mut [u64],
     levels: &mut [u16],
     allowance: u64,
-    done: &mut [u64],
+    answer: &mut [u64],
 ) -> u32
-    ensures { λ r. ⌜ ContinuesWords (now (words .entry)) (now (levels .entry)) allowance (now (done .entry)) r (
+    ensures { λ r. ⌜ ContinuesWords (now (words .entry)) (now (levels .entry)) allowance (now (answer .entry)) r (
       now (words .exit),
       now (levels .exit),
-      now (done .exit),
+      now (answer .exit),
     ) ⌝ }
 {
     if words::holds_no_record(words) {
         return 1;
     }
     let run = words::read_record(words);
-    if done.len() != 1 {
+    if answer.len() != 2 {
         let refusal = run::continuing::continue_refusal(run, levels, allowance as usize);
         return answers::at_latest(refusal);
     }
@@ -98,8 +98,8 @@ pub extern "C" fn wt_continue(
     }
     let next = worked.run;
     words::write_record(next, words);
-    let all = flag_of(worked.done);
-    done[0] = all;
+    answer[0] = flag_of(worked.done);
+    answer[1] = worked.lowered as u64;
     0
 }
 

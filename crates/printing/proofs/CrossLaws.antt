@@ -66,17 +66,18 @@ module _ (width height : ℕ) (sheet : List ℕ) (s : SoundSheet width height sh
   all-rows = let h = frame-sides width height (sheet-accepted width height sheet s .0) .1 .1 in omega arith
 
   pub continue-gives : {begun : Record} {levels : List ℕ} → (begun ≡ run) × (levels ≡ start)
-      → {number : ℕ} {r : Record} {done : Bool} {after : List ℕ} → Continues begun levels mostRows number (r, done, after)
+      → {number : ℕ} {r : Record} {done : Bool} {after : List ℕ} {lowered : ℕ}
+      → Continues begun levels mostRows number ((r, done, after), lowered)
       → (r ≡ withRows run (due run)) × (after ≡ finished run start)
-  continue-gives {begun} {levels} e {number} {r} {done} {after} b =
-      let a = subst (λ x. Continues x start mostRows number (r, done, after)) (e .0)
-      (subst (λ x. Continues begun x mostRows number (r, done, after)) (e .1) b) in
+  continue-gives {begun} {levels} e {number} {r} {done} {after} {lowered} b =
+      let a = subst (λ x. Continues x start mostRows number ((r, done, after), lowered)) (e .0)
+      (subst (λ x. Continues begun x mostRows number ((r, done, after), lowered)) (e .1) b) in
       let z = continue-accept run start mostRows (started-sound run start cross-started 0 (omega arith)) (levels-right start refl)
       (omega arith) in
       let q = a .accepted (a .refusal ∙ sym z) in
       let n : 0 + min mostRows (due run - 0) ≡ due run = let m = all-rows in omega arith in (
-        ap (λ t. t .0) q ∙ ap (withRows run) n,
-        ap (λ t. t .2) q ∙ ap (λ k. scanRows (areaOf run) 0 k start) all-rows,
+        ap (λ t. t .0 .0) q ∙ ap (withRows run) n,
+        ap (λ t. t .0 .2) q ∙ ap (λ k. scanRows (areaOf run) 0 k start) all-rows,
       )
 
   -- COLLECTING

@@ -2,11 +2,12 @@
 -- row, those whose partner is beyond the right edge.
 -- Each of the three stretches is a pass by the partners' levels, and the three join.
 use Prim.Native.Nat.{ℕ, _+_, _-_, _≤_, _<_, min}
+use native.Mathlib.Nat.{zero-add}
 use native.Mathlib.Omega.{arith}
 use mathlib.Core.Bool.{true, false}
-use mathlib.Core.Logic.{_⊎_, inl, inr, ⊎-elim}
+use mathlib.Core.Logic.{_⊎_, inl, inr}
 use mathlib.Core.List.{List}
-use mathlib.Core.Path.{_≡_, sym, ap, _∙_}
+use mathlib.Core.Path.{_≡_, sym, ap}
 use lib.ListN.{getD}
 use borrow.Author.Tests.{lt-ltb, le-ltb, le-leb, lt-leb}
 use Rattle.row.specs.RowRule.{more, within}
@@ -47,47 +48,39 @@ module _ (width across left right n : ℕ) (l : left ≡ min (3 - across) width)
   over-right : left + n + right ≡ width → (j : ℕ) → j < right → width + 3 ≤ left + n + j + across
   over-right all j h = omega arith
 
-module _ (width from beyond at across : ℕ) (levels : List ℕ) (apart : (from + width ≤ at) ⊎ (at + width ≤ from)) where
+module _ (width from beyond across : ℕ) (levels worked : List ℕ) where
   joined : (left right n : ℕ) (one two three : List ℕ) → left + n + right ≡ width →
       ((j : ℕ) → j < left → j + across < 3) → ((j : ℕ) → j < n → left + across ≡ right + 3)
       → ((j : ℕ) → j < right → width + 3 ≤ left + n + j + across) →
-      Pass at left (λ j. beyond) levels one → Pass (at + left) n (λ j. getD one (from + right + j) 0) one two
-      → Pass (at + left + n) right (λ j. beyond) two three →
-      Pass at width (λ col. columnAt width from beyond levels (col + across)) levels three
+      Pass 0 left (λ j. more beyond) worked one → Pass left n (λ j. more (getD levels (from + right + j) 0)) one two
+      → Pass (left + n) right (λ j. more beyond) two three →
+      Pass 0 width (λ col. more (columnAt width from beyond levels (col + across))) worked three
   joined left right n one two three all low same high P Q R =
-      let f : ℕ → ℕ = λ col. columnAt width from beyond levels (col + across) in
-      let kept : (k : ℕ) → k < width → getD one (from + k) 0 ≡ getD levels (from + k) 0 =
-      λ k h. ⊎-elim (λ (q : from + width ≤ at). P .earlier (from + k) (omega arith))
-      (λ (q : at + width ≤ from). P .later (from + k) (omega arith)) apart in
-      let P′ : Pass at left f levels one =
-      pass-as at left levels (λ j. beyond) f one
+      let f : ℕ → ℕ = λ col. more (columnAt width from beyond levels (col + across)) in
+      let P′ : Pass 0 left f worked one =
+      pass-as 0 left worked (λ j. more beyond) f one
       (λ j h. ap more (sym (column-out width from beyond levels (j + across) (inl (low j h))))) P in
-      let Q′ : Pass (at + left) n (λ j. f (left + j)) one two =
-      pass-as (at + left) n one (λ j. getD one (from + right + j) 0) (λ j. f (left + j)) two
+      let Q′ : Pass left n (λ j. f (left + j)) one two =
+      pass-as left n one (λ j. more (getD levels (from + right + j) 0)) (λ j. f (left + j)) two
       (λ j h.
       let s : left + across ≡ right + 3 = same j h in
       let e : from + right + j ≡ from + (left + j + across - 3) = omega arith in
-      ap more (rw e (kept (left + j + across - 3) (omega arith)
-      ∙ sym (column-in width from beyond levels (left + j + across) (omega arith) (omega arith)))))
+      ap more (rw e (sym (column-in width from beyond levels (left + j + across) (omega arith) (omega arith)))))
       Q in
-      let order : at + left + n ≡ at + (left + n) = omega arith in
-      let R′ : Pass (at + (left + n)) right (λ j. f (left + n + j)) two three =
-      pass-as (at + (left + n)) right two (λ j. beyond) (λ j. f (left + n + j)) three
-      (λ j h. ap more (sym (column-out width from beyond levels (left + n + j + across) (inr (high j h))))) (rw order at R) in
-      rw all at (pass-join at f levels (left + n) right two three (pass-join at f levels left n one two P′ Q′) R′)
+      let R′ : Pass (left + n) right (λ j. f (left + n + j)) two three =
+      pass-as (left + n) right two (λ j. more beyond) (λ j. f (left + n + j)) three
+      (λ j h. ap more (sym (column-out width from beyond levels (left + n + j + across) (inr (high j h))))) R in
+      let first : _≡_ {A = ℕ} (0 + left) left = zero-add left in
+      let second : _≡_ {A = ℕ} (0 + (left + n)) (left + n) = zero-add (left + n) in
+      rw all at (pass-join 0 f worked (left + n) right two three (pass-join 0 f worked left n one two P′ (rw first Q′))
+      (rw second R′))
 
   pub by-stretches : (left right n : ℕ) (one two three : List ℕ) → left ≡ min (3 - across) width → right ≡ min (across - 3) width
       → n ≡ width - left - right →
-      Pass at left (λ j. beyond) levels one → Pass (at + left) n (λ j. getD one (from + right + j) 0) one two
-      → Pass (at + left + n) right (λ j. beyond) two three →
-      Pass at width (λ col. columnAt width from beyond levels (col + across)) levels three
+      Pass 0 left (λ j. more beyond) worked one → Pass left n (λ j. more (getD levels (from + right + j) 0)) one two
+      → Pass (left + n) right (λ j. more beyond) two three →
+      Pass 0 width (λ col. more (columnAt width from beyond levels (col + across))) worked three
   by-stretches left right n one two three l r m P Q R =
       let all : left + n + right ≡ width = whole width across left right n l r m in
       joined left right n one two three all (over-left width across left right n l r) (between width across left right n l r all)
       (over-right width across left right n l r all) P Q R
-
--- the middle stretch of the row and the levels that it reads lie apart as the two rows do
-pub stretch-apart : (width from at left right n : ℕ) → left + n + right ≤ width → (from + width ≤ at) ⊎ (at + width ≤ from) →
-    (from + right + n ≤ at + left) ⊎ (at + left + n ≤ from + right)
-stretch-apart width from at left right n all (inl h) = inl (omega arith)
-stretch-apart width from at left right n all (inr h) = inr (omega arith)

@@ -1,6 +1,6 @@
 -- The least level among the partners of a run of cells: it splits at any cell, and where the cells lie in other rows of the
 -- element it is the same in levels that differ in the own row alone.
--- So the passes of single cells of other rows add up to one pass by the least of them all.
+-- So the passes of single cells add up to one pass by the least of them all, and the own row may be worked after the others.
 use Prim.Native.Nat.{ℕ, zero, suc, _+_, _-_, _*_, _/_, _%_, _≤_, _<_, min}
 use native.Mathlib.Nat.{add-zero, zero-add, suc-add, mul-le-mul-right, suc-mul}
 use native.Mathlib.Omega.{arith}
@@ -14,7 +14,7 @@ use borrow.Author.Tests.{eq-eqb, ne-eqb, leb-true, ltb-true}
 use Rattle.basics.proofs.BoundLaws.{both}
 use Rattle.row.specs.RowRule.{Area, none, more, cellNumber, within, levelAt, partner, least}
 use Rattle.row.specs.Passes.{Pass, columnAt, firstOther}
-use Rattle.row.proofs.Pass.{pass-as, pass-and, pass-none}
+use Rattle.row.proofs.Pass.{more-least, pass-as, pass-and, pass-none}
 
 -- an earlier row ends before a later one begins
 pub row-end : (width row rows : ℕ) → row < rows → row * width + width ≤ rows * width
@@ -116,54 +116,43 @@ module _ (area : Area) (row : ℕ) (levels after : List ℕ)
       least-as area area after levels row row col k n
       (λ j a b. partner-same col j (⊎-elim (λ (h : k + n ≤ 21). inl (omega arith)) (λ (h : 28 ≤ k). inr (omega arith)) other))
 
--- the passes of the cells of other rows, one after the other
-pub pass-cell : (area : Area) (row first n : ℕ) (levels between after : List ℕ) → (first + (n + 1) ≤ 21) ⊎ (28 ≤ first) →
-    Pass (row * area .width) (area .width) (λ col. least area levels row col first n) levels between →
-    Pass (row * area .width) (area .width) (λ col. least area between row col (first + n) 1) between after →
-    Pass (row * area .width) (area .width) (λ col. least area levels row col first (n + 1)) levels after
-pass-cell area row first n levels between after other P Q =
-    let cell : (first + n + 1 ≤ 21) ⊎ (28 ≤ first + n) =
-    ⊎-elim (λ (h : first + (n + 1) ≤ 21). inl (omega arith)) (λ (h : 28 ≤ first). inr (omega arith)) other in
-    pass-as _ _ levels _ _ after
-    (λ col h. ap more
-    (ap (λ (x : ℕ). min (least area levels row col first n) x)
-    (least-same area row levels between (P .earlier) (P .later) col (first + n) 1 cell)
-    ∙ sym (least-split area levels row col first n 1)))
-    (pass-and _ _ levels _ _ between after P Q)
+-- the passes of the cells, one after the other
+pub pass-cell : (area : Area) (row first n : ℕ) (levels worked between after : List ℕ) →
+    Pass 0 (area .width) (λ col. more (least area levels row col first n)) worked between →
+    Pass 0 (area .width) (λ col. more (least area levels row col (first + n) 1)) between after →
+    Pass 0 (area .width) (λ col. more (least area levels row col first (n + 1))) worked after
+pass-cell area row first n levels worked between after P Q =
+    pass-as _ _ worked _ _ after
+    (λ col h. sym (more-least (least area levels row col first n) (least area levels row col (first + n) 1))
+    ∙ ap more (sym (least-split area levels row col first n 1)))
+    (pass-and _ _ worked _ _ between after P Q)
 
--- the row of a partner that is within the area lies in the levels, apart from the own row
+-- the row of a partner that is within the area lies in the levels
 pub row-inside : (width rows y : ℕ) → within rows y ≡ true → (3 ≤ y) × ((y - 3) * width + width ≤ rows * width)
 row-inside width rows y q =
     let h : (3 ≤ y) × (y < rows + 3) = within-true rows y q in
     (h .0, row-end width (y - 3) rows (omega arith))
 
-pub row-apart : (width rows row k : ℕ) → within rows (row + k / 7) ≡ true → (k < 21) ⊎ (28 ≤ k) →
-    ((row + k / 7 - 3) * width + width ≤ row * width) ⊎ (row * width + width ≤ (row + k / 7 - 3) * width)
-row-apart width rows row k q (inl h) =
-    inl (row-end width (row + k / 7 - 3) row (omega (arith, within-true rows (row + k / 7) q .0)))
-row-apart width rows row k q (inr h) = inr (row-end width row (row + k / 7 - 3) (omega arith))
-
 -- the pass of one cell: not set, its row beyond the area, its row in the area
-module _ (area : Area) (row k : ℕ) (levels : List ℕ) where
-  pub pass-unset : cellNumber (area .cells) k ≡ 0 → ((i : ℕ) → getD levels i 0 < 65536)
-      → Pass (row * area .width) (area .width) (λ col. least area levels row col k 1) levels levels
-  pass-unset z small = pass-as _ _ levels _ _ levels (λ col h. ap more (sym (cell-unset area levels row col k z)))
-      (pass-none _ _ levels small)
+module _ (area : Area) (row k : ℕ) (levels worked : List ℕ) where
+  pub pass-unset : cellNumber (area .cells) k ≡ 0 → ((i : ℕ) → getD worked i 0 < 65536)
+      → Pass 0 (area .width) (λ col. more (least area levels row col k 1)) worked worked
+  pass-unset z small = pass-as _ _ worked _ _ worked (λ col h. ap more (sym (cell-unset area levels row col k z)))
+      (pass-none _ _ worked small)
 
   pub pass-beyond : (after : List ℕ) → (cellNumber (area .cells) k ≡ 0 → ⊥) → within (area .height) (row + k / 7) ≡ false →
-      Pass (row * area .width) (area .width) (λ col. area .beyond) levels after →
-      Pass (row * area .width) (area .width) (λ col. least area levels row col k 1) levels after
-  pass-beyond after z out P = pass-as _ _ levels _ _ after (λ col h. cell-beyond area levels row col k z out) P
+      Pass 0 (area .width) (λ col. more (area .beyond)) worked after →
+      Pass 0 (area .width) (λ col. more (least area levels row col k 1)) worked after
+  pass-beyond after z out P = pass-as _ _ worked _ _ after (λ col h. cell-beyond area levels row col k z out) P
 
   pub pass-in : (after : List ℕ) → (cellNumber (area .cells) k ≡ 0 → ⊥) → within (area .height) (row + k / 7) ≡ true →
-      Pass (row * area .width) (area .width)
-      (λ col. columnAt (area .width) ((row + k / 7 - 3) * area .width) (area .beyond) levels (col + k % 7)) levels after →
-      Pass (row * area .width) (area .width) (λ col. least area levels row col k 1) levels after
-  pass-in after z in-area P = pass-as _ _ levels _ _ after (λ col h. cell-in area levels row col k z in-area) P
+      Pass 0 (area .width)
+      (λ col. more (columnAt (area .width) ((row + k / 7 - 3) * area .width) (area .beyond) levels (col + k % 7))) worked after →
+      Pass 0 (area .width) (λ col. more (least area levels row col k 1)) worked after
+  pass-in after z in-area P = pass-as _ _ worked _ _ after (λ col h. cell-in area levels row col k z in-area) P
 
 -- the 21 cells of other rows are those before cell 21, or those from cell 28 on
-pub other-cells : (upward : Bool) (first n : ℕ) → first ≡ firstOther upward → n < 21
-    → (first + n < 49) × ((first + (n + 1) ≤ 21) ⊎ (28 ≤ first))
+pub other-cells : (upward : Bool) (n : ℕ) → n < 21 → firstOther upward + n < 49
 unfolding firstOther
-other-cells false first n q h = (omega arith, inl (omega arith))
-other-cells true first n q h = (omega arith, inr (omega arith))
+other-cells false n h = omega arith
+other-cells true n h = omega arith

@@ -3,16 +3,15 @@
 use Prim.Native.Nat.{ℕ, zero, suc, _+_, _-_, _≤_, _<_, min}
 use native.Mathlib.Numerals.{add-one}
 use native.Mathlib.Omega.{arith}
-use mathlib.Core.Bool.{Bool, true, false, cond}
+use mathlib.Core.Bool.{Bool, true, false}
 use mathlib.Core.Logic.{⊎-elim}
 use mathlib.Core.List.{List}
 use mathlib.Core.Path.{_≡_, refl, sym, _∙_}
-use lib.Dec.{eqb}
-use lib.ListN.{length, getD, set}
+use lib.ListN.{length, getD, set, length-set}
 use lib.Seq.{getD-set-same, getD-set-other, set-getD}
-use borrow.Author.Tests.{eq-eqb, le-leb, lt-leb}
+use borrow.Author.Tests.{le-leb, lt-leb}
 use Rattle.row.specs.RowRule.{none, more, place}
-use Rattle.row.specs.Passes.{levelBack, picked, nearest, step, Lowest, ownPoint, ownColumns}
+use Rattle.row.specs.Passes.{levelBack, picked, nearest, step, Lowest, TwoLowest, ownPoint, ownColumns}
 use Rattle.row.proofs.Pass.{ordered, more-least}
 
 pub place-below : (upward : Bool) (width t : ℕ) → t < width → place upward width t < width
@@ -32,13 +31,10 @@ place-back false width t h = refl
 place-back true width t h = omega arith
 
 -- a level lowered by three steps is lowered by one more than the least of the partners
-by-step : (level cell partner : ℕ) → level ≤ none → min level (partner + step cell) ≡ min level (more (picked cell partner))
+by-step : (isSet : Bool) (level partner : ℕ) → level ≤ none → min level (partner + step isSet) ≡ min level (more (picked isSet partner))
 unfolding step picked
-by-step level cell partner small = cases (eqb cell 0)
-  where
-    cases : (t : Bool) → min level (partner + cond t none 1) ≡ min level (more (cond t none partner))
-    cases true = omega arith
-    cases false = omega arith
+by-step true level partner small = omega arith
+by-step false level partner small = omega arith
 
 least-both : (level a b c d : ℕ) → min level a ≡ min level c → min level b ≡ min level d → min level (min a b) ≡ min level (min c d)
 least-both level a b c d p q = apart level a b ∙ rw (p, q) (sym (apart level c d))
@@ -46,30 +42,30 @@ least-both level a b c d p q = apart level a b ∙ rw (p, q) (sym (apart level c
     apart : (x y z : ℕ) → min x (min y z) ≡ min (min x y) (min x z)
     apart x y z = omega arith
 
-by-steps : (level one two three near middle far : ℕ) → level ≤ none →
+by-steps : (one two three : Bool) (level near middle far : ℕ) → level ≤ none →
     min level (min (near + step one) (min (middle + step two) (far + step three)))
     ≡ min level (more (nearest one two three near middle far))
-by-steps level one two three near middle far small =
-    least-both level _ _ _ _ (by-step level one near small)
-    (least-both level _ _ _ _ (by-step level two middle small) (by-step level three far small))
+by-steps one two three level near middle far small =
+    least-both level _ _ _ _ (by-step one level near small)
+    (least-both level _ _ _ _ (by-step two level middle small) (by-step three level far small))
     ∙ rw (
       more-least (picked one near) (min (picked two middle) (picked three far)),
       more-least (picked two middle) (picked three far),
     )
 
-module _ (upward : Bool) (width start beyond : ℕ) where
-  back-now : (levels : List ℕ) (t level : ℕ) → t < width → start + width ≤ length levels →
-      levelBack upward width start beyond (set levels (start + place upward width t) level) (t + 1) 1 ≡ level
+module _ (upward : Bool) (width beyond : ℕ) where
+  back-now : (levels : List ℕ) (t level : ℕ) → t < width → width ≤ length levels →
+      levelBack upward width beyond (set levels (place upward width t) level) (t + 1) 1 ≡ level
   unfolding levelBack
   back-now levels t level h room =
       let q : t + 1 - 1 ≡ t = omega arith in
       let p : 1 ≤ t + 1 = omega arith in
-      simp (le-leb _ _ p, q) (getD-set-same levels (start + place upward width t) level 0
+      simp (le-leb _ _ p, q) (getD-set-same levels (place upward width t) level 0
       (omega (arith, place-below upward width t h)))
 
   back-next : (levels : List ℕ) (t level d : ℕ) → t < width → 1 ≤ d →
-      levelBack upward width start beyond (set levels (start + place upward width t) level) (t + 1) (d + 1)
-      ≡ levelBack upward width start beyond levels t d
+      levelBack upward width beyond (set levels (place upward width t) level) (t + 1) (d + 1)
+      ≡ levelBack upward width beyond levels t d
   unfolding levelBack
   back-next levels t level d h back =
       ⊎-elim
@@ -79,38 +75,38 @@ module _ (upward : Bool) (width start beyond : ℕ) where
       (λ (m : d ≤ t).
       let p : d + 1 ≤ t + 1 = omega arith in
       let q : t + 1 - (d + 1) ≡ t - d = omega arith in
-      let apart : start + place upward width (t - d) ≡ start + place upward width t → ⊥ =
-      λ e. place-apart upward width (t - d) t (omega arith) h (λ z. omega arith) (omega arith) in
+      let apart : place upward width (t - d) ≡ place upward width t → ⊥ =
+      place-apart upward width (t - d) t (omega arith) h (λ z. omega arith) in
       simp (
         le-leb _ _ m,
         le-leb _ _ p,
         q,
-      ) (getD-set-other levels (start + place upward width t) (start + place upward width (t - d)) level 0 apart))
+      ) (getD-set-other levels (place upward width t) (place upward width (t - d)) level 0 apart))
       (ordered t d)
 
   -- after t turns, with the three levels worked last in locals
-  pub record Kept (one two three t near middle far : ℕ) (entry levels : List ℕ) : Type 0 where
-    pub near-is : near ≡ levelBack upward width start beyond levels t 1
-    pub middle-is : middle ≡ levelBack upward width start beyond levels t 2
-    pub far-is : far ≡ levelBack upward width start beyond levels t 3
+  pub record Kept (one two three : Bool) (t near middle far : ℕ) (entry levels : List ℕ) : Type 0 where
+    pub near-is : near ≡ levelBack upward width beyond levels t 1
+    pub middle-is : middle ≡ levelBack upward width beyond levels t 2
+    pub far-is : far ≡ levelBack upward width beyond levels t 3
     pub small : (near ≤ none) × ((middle ≤ none) × (far ≤ none))
-    pub so-far : levels ≡ ownColumns upward width start one two three beyond t entry
+    pub so-far : levels ≡ ownColumns upward width one two three beyond t entry
 
-  pub kept-start : (one two three : ℕ) (entry : List ℕ) → beyond ≤ none → Kept one two three 0 beyond beyond beyond entry entry
+  pub kept-start : (one two three : Bool) (entry : List ℕ) → beyond ≤ none → Kept one two three 0 beyond beyond beyond entry entry
   unfolding levelBack ownColumns
   kept-start one two three entry small =
       record { near-is = refl; middle-is = refl; far-is = refl; small = (small, (small, small)); so-far = refl }
 
-  pub kept-turn : (one two three t near middle far level : ℕ) (entry levels after : List ℕ) → t < width
-      → start + width ≤ length levels →
+  pub kept-turn : (one two three : Bool) (t near middle far level : ℕ) (entry levels after : List ℕ) → t < width
+      → width ≤ length levels →
       Kept one two three t near middle far entry levels →
-      Lowest levels after (start + place upward width t) (near + step one) (middle + step two) (far + step three) level →
+      Lowest levels after (place upward width t) (near + step one) (middle + step two) (far + step three) level →
       Kept one two three (t + 1) level near middle entry after
   unfolding ownColumns ownPoint
   kept-turn one two three t near middle far level entry levels after turn room K L =
-      let at : ℕ = start + place upward width t in
+      let at : ℕ = place upward width t in
       let low : level ≡ min (getD levels at 0) (more (nearest one two three near middle far)) = L .value
-      ∙ by-steps (getD levels at 0) one two three near middle far (L .small) in
+      ∙ by-steps one two three (getD levels at 0) near middle far (L .small) in
       record {
         near-is = rw (L .stored) (sym (back-now levels t level turn room));
         middle-is = rw (L .stored) (K .near-is ∙ sym (back-next levels t level 1 turn (omega arith)));
@@ -119,18 +115,48 @@ module _ (upward : Bool) (width start beyond : ℕ) where
         so-far = rw (add-one, ← K .so-far, ← K .near-is, ← K .middle-is, ← K .far-is, L .stored, low);
       }
 
-  -- where none of the three cells is set, nothing changes
-  pub own-unset : (one two three t : ℕ) (levels : List ℕ) → one + two + three ≡ 0 → ((i : ℕ) → getD levels i 0 < 65536)
-      → ownColumns upward width start one two three beyond t levels ≡ levels
+  -- the same where the nearest cell alone is set, with its level in a local
+  pub record Near (t near : ℕ) (entry levels : List ℕ) : Type 0 where
+    pub near-is : near ≡ levelBack upward width beyond levels t 1
+    pub small : near ≤ none
+    pub so-far : levels ≡ ownColumns upward width true false false beyond t entry
+
+  pub near-start : (entry : List ℕ) → beyond ≤ none → Near 0 beyond entry entry
+  unfolding levelBack ownColumns
+  near-start entry small = record { near-is = refl; small = small; so-far = refl }
+
+  pub near-turn : (t near level : ℕ) (entry levels after : List ℕ) → t < width → width ≤ length levels → Near t near entry levels
+      → Lowest levels after (place upward width t) (near + 1) none none level → Near (t + 1) level entry after
   unfolding ownColumns ownPoint picked
-  own-unset one two three zero levels unset small = refl
-  own-unset one two three (suc t) levels unset small =
-      let at : ℕ = start + place upward width t in
+  near-turn t near level entry levels after turn room N L =
+      let at : ℕ = place upward width t in
+      let low : level ≡ min (getD levels at 0) (more (min near (min none none))) = L .value
+      ∙ only (getD levels at 0) near (L .small) (N .small) in
+      record {
+        near-is = rw (L .stored) (sym (back-now levels t level turn room));
+        small = omega (arith, L .small, L .value);
+        so-far = rw (add-one, ← N .so-far, ← N .near-is, L .stored, low);
+      }
+    where
+      only : (x y : ℕ) → x ≤ none → y ≤ none → min x (min (y + 1) (min none none)) ≡ min x (more (min y (min none none)))
+      only x y a b = omega arith
+
+  -- two turns of it
+  pub near-two : (t near level : ℕ) (entry levels after : List ℕ) → t + 1 < width → width ≤ length levels → Near t near entry levels
+      → TwoLowest levels after (place upward width t) (place upward width (t + 1)) near level → Near (t + 2) level entry after
+  near-two t near level entry levels after turn room N L =
+      let once : Near (t + 1) (L .middle) entry (L .between) =
+      near-turn t near (L .middle) entry levels (L .between) (omega arith) room N (L .one) in
+      let same : length (L .between) ≡ length levels = rw (L .one .stored) (length-set levels _ _) in
+      let q : t + 1 + 1 ≡ t + 2 = omega arith in
+      rw q at (near-turn (t + 1) (L .middle) level entry (L .between) after turn (omega arith) once (L .two))
+
+  -- where none of the three cells is set, nothing changes
+  pub own-unset : (t : ℕ) (levels : List ℕ) → ((i : ℕ) → getD levels i 0 < 65536)
+      → ownColumns upward width false false false beyond t levels ≡ levels
+  unfolding ownColumns ownPoint picked
+  own-unset zero levels small = refl
+  own-unset (suc t) levels small =
+      let at : ℕ = place upward width t in
       let q : min (getD levels at 0) none ≡ getD levels at 0 = omega (arith, small at) in
-      rw (
-        own-unset one two three t levels unset small,
-        eq-eqb one 0 (omega arith),
-        eq-eqb two 0 (omega arith),
-        eq-eqb three 0 (omega arith),
-        q,
-      ) (set-getD levels at 0)
+      rw (own-unset t levels small, q) (set-getD levels at 0)

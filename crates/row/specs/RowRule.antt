@@ -2,7 +2,7 @@
 -- Levels stand row by row in one list. Cells of the element are numbered 0 to 48 in reading order; cell 24 is its centre.
 use Prim.Native.Nat.{ℕ, zero, suc, _+_, _-_, _*_, _/_, _%_, min}
 use mathlib.Core.Bool.{Bool, true, false, cond, _&&_}
-use mathlib.Core.List.{List, []}
+use mathlib.Core.List.{List, [], _∷_}
 use lib.Dec.{eqb, leb, ltb}
 use lib.ListN.{getD, set}
 
@@ -69,3 +69,9 @@ columns area upward row (suc t) levels =
 -- the whole row
 unfoldable pub rowRule : Area → Bool → ℕ → List ℕ → List ℕ
 rowRule area upward row levels = columns area upward row (area .width) levels
+
+-- how many points have a smaller level after than before
+unfoldable pub pointsLowered : List ℕ → List ℕ → ℕ
+pointsLowered (level ∷ before) (lower ∷ after) = cond (ltb lower level) 1 0 + pointsLowered before after
+pointsLowered (level ∷ before) [] = 0
+pointsLowered [] after = 0

@@ -10,11 +10,11 @@ use lib.ListN.{length}
 use borrow.Author.Tests.{lt-ltb, le-ltb, eqb-true, ltb-false}
 use Rattle.basics.specs.Refusals.{first}
 use Rattle.basics.proofs.RefusalLaws.{refuses, accepts, rule-unique}
-use Rattle.scan.specs.Scan.{area, Lent, scanRows}
+use Rattle.scan.specs.Scan.{area, Lent, scanRows, rowsLowered}
 use Rattle.run.specs.declared.Record.{Record}
 use Rattle.run.specs.declared.continuing.Continued.{Continued}
 use Rattle.run.specs.Records.{beyondOf, cellsOf, areaWidth, areaHeight, due, areaOf, recordBad, noRecord}
-use Rattle.run.specs.Continuing.{levelsWrong, continueRefusals, worked, withRows, isDone, Continues}
+use Rattle.run.specs.Continuing.{State, levelsWrong, continueRefusals, worked, withRows, isDone, loweredBy, Continues}
 use Rattle.run.proofs.RecordLaws.{Sound}
 
 module _ (r : Record) (levels : List ℕ) (allowance : ℕ) where
@@ -45,17 +45,19 @@ module _ (r : Record) (levels : List ℕ) (allowance : ℕ) where
       go false false c p q s e = absurd (omega arith)
       go true b c p q s e = absurd (omega arith)
 
-  pub continue-refuses : (number : ℕ) (answer : Continued) → answer ≡ record { refusal = number; run = noRecord; done = false }
-      → number ≢ 0 → number ≡ first (continueRefusals r levels allowance)
-      → Continues r levels allowance (answer .refusal) (answer .run, answer .done, levels)
+  pub continue-refuses : (number : ℕ) (answer : Continued)
+      → answer ≡ record { refusal = number; run = noRecord; done = false; lowered = 0 } → number ≢ 0
+      → number ≡ first (continueRefusals r levels allowance)
+      → Continues r levels allowance (answer .refusal) ((answer .run, answer .done, levels), answer .lowered)
   continue-refuses number answer q n e = rw q (refuses number n e)
 
-  pub continue-accepts : first (continueRefusals r levels allowance) ≡ 0 → (next : Record) (after : List ℕ) (count all : ℕ)
+  pub continue-accepts : first (continueRefusals r levels allowance) ≡ 0 → (next : Record) (after : List ℕ) (count all lowered : ℕ)
       → count ≡ worked r allowance → all ≡ due r → next ≡ withRows r (r .rows + count)
-      → after ≡ scanRows (areaOf r) (r .rows) count levels
-      → Continues r levels allowance 0 (next, eqb (r .rows + count) all, after)
-  continue-accepts z next after count all p q s t =
-      accepts (next, eqb (r .rows + count) all, after) z (λ i. (record-path i, done-path i, levels-path i))
+      → after ≡ scanRows (areaOf r) (r .rows) count levels → lowered ≡ rowsLowered (areaOf r) (r .rows) count levels
+      → Continues r levels allowance 0 ((next, eqb (r .rows + count) all, after), lowered)
+  continue-accepts z next after count all lowered p q s t c =
+      accepts ((next, eqb (r .rows + count) all, after), lowered) z
+      (λ i. ((record-path i, done-path i, levels-path i), lowered-path i))
     where
       record-path : next ≡ withRows r (r .rows + worked r allowance)
       record-path = s ∙ ap (λ n. withRows r (r .rows + n)) p
@@ -66,7 +68,10 @@ module _ (r : Record) (levels : List ℕ) (allowance : ℕ) where
       levels-path : after ≡ scanRows (areaOf r) (r .rows) (worked r allowance) levels
       levels-path = t ∙ ap (λ n. scanRows (areaOf r) (r .rows) n levels) p
 
-  pub continue-unique : (m n : ℕ) (x y : Record × Bool × List ℕ) → Continues r levels allowance m x
+      lowered-path : lowered ≡ loweredBy r levels allowance
+      lowered-path = c ∙ ap (λ n. rowsLowered (areaOf r) (r .rows) n levels) p
+
+  pub continue-unique : (m n : ℕ) (x y : State × ℕ) → Continues r levels allowance m x
       → Continues r levels allowance n y → (m ≡ n) × (x ≡ y)
   continue-unique = rule-unique
 
@@ -81,7 +86,6 @@ module _ (r : Record) (s : Sound r) (levels : List ℕ) (size : length levels �
       let d = s .area-high in
       rw (w, h) (record { wide = (omega arith, c); high = (omega arith, d); size = size })
 
-  pub work-rows : (beyond : ℕ) (cells : List (List ℕ)) → beyond ≡ beyondOf r → cells ≡ cellsOf r
-      → (done count : ℕ) (after : List ℕ) → after ≡ scanRows (area width height beyond cells) done count levels
-      → after ≡ scanRows (areaOf r) done count levels
-  work-rows beyond cells b c done count after e = e ∙ rw (w, h, b, c)
+  pub work-area : (beyond : ℕ) (cells : List (List ℕ)) → beyond ≡ beyondOf r → cells ≡ cellsOf r
+      → area width height beyond cells ≡ areaOf r
+  work-area beyond cells b c = rw (w, h, b, c)

@@ -1,28 +1,32 @@
 -- Demand 3: cuts may not show. By induction on the series: an accepted call takes the run from one unbroken scan to a longer one,
--- since m rows and then n rows are m + n rows; a refused one leaves it.
+-- since m rows and then n rows are m + n rows; a refused one leaves it. So with the points that they lower.
 -- A picture's refusals compute once the record, the levels and the room are known to be in order: the rows alone decide.
 use Prim.Native.Nat.{ℕ, _+_, _-_, _*_, _≤_, min}
+use native.Mathlib.Nat.{add-zero, add-assoc}
 use native.Mathlib.Decide.{ℕ-discrete}
 use native.Mathlib.Omega.{arith}
 use mathlib.Core.Path.{_≡_, refl, sym, ap, subst, _∙_}
-use mathlib.Core.Bool.{Bool, true, false, not, cond}
+use mathlib.Core.Bool.{Bool, true, false, not, cond, true≢false}
 use mathlib.Core.Logic.{_≢_}
 use mathlib.Core.List.{List, [], _∷_}
 use lib.Dec.{eqb, ltb}
 use lib.ListN.{length}
 use borrow.Author.Tests.{le-ltb, eq-eqb, ne-eqb, eqb-true}
+use Rattle.basics.specs.Limits.{mostRows}
 use Rattle.basics.specs.Refusals.{first}
 use Rattle.basics.proofs.RefusalLaws.{first-accepted, refuses, accepts}
 use Rattle.sheet.specs.Sheets.{rowBytes}
-use Rattle.scan.specs.Scan.{scanRows}
-use Rattle.scan.proofs.ScanLaws.{rows-add, rows-length, rows-none}
+use Rattle.scan.specs.Scan.{scanRows, rowsLowered}
+use Rattle.scan.proofs.ScanLaws.{rows-add, rows-length, rows-none, lowered-add}
 use Rattle.run.specs.declared.Record.{Record}
 use Rattle.run.specs.Records.{areaWidth, areaHeight, areaOf, due, recordBad, noRecord}
-use Rattle.run.specs.Continuing.{levelsWrong, withRows, continued, continueRefusals, Continues}
+use Rattle.run.specs.Continuing.{State, levelsWrong, withRows, continued, loweredBy, continueRefusals, Continues}
 use Rattle.run.specs.Pictures.{sizeLimit, collectRefusals, thresholdRefusals}
 use Rattle.run.specs.Provisional.{provisionalRefusals}
-use Rattle.run.specs.Series.{Started, State, Slice, Allowed, IsSeries, atStart, next, after, allowed, unbroken, rowsWorked}
-use Rattle.run.specs.Series.{SeriesExist, CutsDoNotShow, AcceptedExactly, NoneReleased, UnfinishedRefused, Released}
+use Rattle.run.specs.Series.{Started, Slice, Allowed, IsSeries, atStart, next, after, allowed, counted, unbroken, rowsWorked}
+use Rattle.run.specs.Series.{SeriesExist, CutsDoNotShow, CountsAddUp, AcceptedExactly, NoneReleased, UnfinishedRefused}
+use Rattle.run.specs.Series.{Released}
+use Rattle.run.proofs.RecordLaws.{sound}
 use Rattle.run.proofs.Started.{IsStart, is-start, started-sound}
 
 module _ (r : Record) (levels : List ℕ) (s : IsStart r levels) where
@@ -39,6 +43,17 @@ module _ (r : Record) (levels : List ℕ) (s : IsStart r levels) where
         let joined = sym (rows-add (areaOf r) 0 n count levels) in
         λ i. (withRows r (e i), eqb (e i) (due r), (from ∙ joined ∙ ap (λ m. scanRows (areaOf r) 0 m levels) e) i)
 
+    -- and what its rows lower, beside those before
+    longer-lowered : (allowance : ℕ)
+        → rowsLowered (areaOf r) 0 n levels + loweredBy (withRows r n) (scanRows (areaOf r) 0 n levels) allowance
+        ≡ rowsLowered (areaOf r) 0 (min (n + allowance) (due r)) levels
+    longer-lowered allowance =
+        let count = min allowance (due r - n) in
+        let e : n + count ≡ min (n + allowance) (due r) = omega arith in
+        let z : 0 + n ≡ n = omega arith in
+        ap (λ m. rowsLowered (areaOf r) 0 n levels + rowsLowered (areaOf r) m count (scanRows (areaOf r) 0 n levels)) (sym z)
+        ∙ sym (lowered-add (areaOf r) 0 n count levels) ∙ ap (λ m. rowsLowered (areaOf r) 0 m levels) e
+
     -- after one call, accepted or refused
     stepped : (call : Slice) → Allowed (unbroken r levels n) call
         → next (unbroken r levels n) call
@@ -48,12 +63,34 @@ module _ (r : Record) (levels : List ℕ) (s : IsStart r levels) where
         accepted : call .number ≡ 0 → call .answer ≡ unbroken r levels (min (n + call .allowance) (due r))
         accepted z =
             let own = p .own z in
-            p .outcome .accepted z ∙ (λ i. continued (own .0 i) (own .1 i) (call .allowance)) ∙ longer (call .allowance)
+            ap (λ t. t .0) (p .outcome .accepted z) ∙ (λ i. continued (own .0 i) (own .1 i) (call .allowance)) ∙ longer (call .allowance)
 
         go : (t : Bool) → eqb (call .number) 0 ≡ t
             → cond t (call .answer) (unbroken r levels n) ≡ unbroken r levels (min (n + cond t (call .allowance) 0) (due r))
         go true e = accepted (eqb-true (call .number) 0 e)
         go false e = ap (unbroken r levels) (let z : n ≡ min (n + 0) (due r) = omega arith in z)
+
+    stepped-lowered : (call : Slice) → Allowed (unbroken r levels n) call
+        → rowsLowered (areaOf r) 0 n levels + call .lowered
+        ≡ rowsLowered (areaOf r) 0 (min (n + cond (eqb (call .number) 0) (call .allowance) 0) (due r)) levels
+    stepped-lowered call p = go (eqb (call .number) 0) refl
+      where
+        accepted : call .number ≡ 0 → call .lowered ≡ loweredBy (withRows r n) (scanRows (areaOf r) 0 n levels) (call .allowance)
+        accepted z =
+            let own = p .own z in
+            ap (λ t. t .1) (p .outcome .accepted z) ∙ (λ i. loweredBy (own .0 i) (own .1 i) (call .allowance))
+
+        refused : call .number ≢ 0 → call .lowered ≡ 0
+        refused z = ap (λ t. t .1) (p .outcome .refused z)
+
+        go : (t : Bool) → eqb (call .number) 0 ≡ t
+            → rowsLowered (areaOf r) 0 n levels + call .lowered
+            ≡ rowsLowered (areaOf r) 0 (min (n + cond t (call .allowance) 0) (due r)) levels
+        go true e = rw (accepted (eqb-true (call .number) 0 e)) (longer-lowered (call .allowance))
+        go false e =
+            let z : n ≡ min (n + 0) (due r) = omega arith in
+            rw (refused (λ q. true≢false (sym (eq-eqb (call .number) 0 q) ∙ e)), add-zero)
+            (ap (λ m. rowsLowered (areaOf r) 0 m levels) z)
 
   cut : (n : ℕ) → n ≤ due r → (series : List Slice) → IsSeries (unbroken r levels n) series
       → after (unbroken r levels n) series ≡ unbroken r levels (min (n + allowed series) (due r))
@@ -66,6 +103,21 @@ module _ (r : Record) (levels : List ℕ) (s : IsStart r levels) where
       let rest = cut m (omega arith) series (subst (λ t. IsSeries t series) q (p .1)) in
       let e : min (m + allowed series) (due r) ≡ min (n + (a + allowed series)) (due r) = omega arith in
       ap (λ t. after t series) q ∙ rest ∙ ap (unbroken r levels) e
+
+  cut-lowered : (n : ℕ) → n ≤ due r → (series : List Slice) → IsSeries (unbroken r levels n) series
+      → rowsLowered (areaOf r) 0 n levels + counted series ≡ rowsLowered (areaOf r) 0 (min (n + allowed series) (due r)) levels
+  unfolding IsSeries allowed counted
+  cut-lowered n within [] p =
+      let e : n ≡ min (n + 0) (due r) = omega arith in
+      rw add-zero (ap (λ m. rowsLowered (areaOf r) 0 m levels) e)
+  cut-lowered n within (call ∷ series) p =
+      let a = cond (eqb (call .number) 0) (call .allowance) 0 in
+      let m = min (n + a) (due r) in
+      let step = stepped-lowered n within call (p .0) in
+      let rest = cut-lowered m (omega arith) series (subst (λ t. IsSeries t series) (stepped n within call (p .0)) (p .1)) in
+      let e : min (m + allowed series) (due r) ≡ min (n + (a + allowed series)) (due r) = omega arith in
+      sym (add-assoc (rowsLowered (areaOf r) 0 n levels) (call .lowered) (counted series))
+      ∙ ap (λ c. c + counted series) step ∙ rest ∙ ap (λ k. rowsLowered (areaOf r) 0 k levels) e
 
   -- a start is an unbroken scan of no rows
   pub begins : atStart r levels ≡ unbroken r levels 0
@@ -85,20 +137,29 @@ cuts-do-not-show r levels started series p =
 
 -- and there are series: each call is answered
 answered : (r : Record) (levels : List ℕ) (allowance : ℕ)
-    → (number : ℕ) × (answer : State) × Continues r levels allowance number answer
+    → (number : ℕ) × (answer : State × ℕ) × Continues r levels allowance number answer
 answered r levels allowance = go (ℕ-discrete (first (continueRefusals r levels allowance)) 0)
   where
     go : Dec (first (continueRefusals r levels allowance) ≡ 0)
-        → (number : ℕ) × (answer : State) × Continues r levels allowance number answer
-    go (yes z) = (0, continued r levels allowance, accepts (continued r levels allowance) z refl)
-    go (no n) = (first (continueRefusals r levels allowance), (noRecord, false, levels), refuses _ n refl)
+        → (number : ℕ) × (answer : State × ℕ) × Continues r levels allowance number answer
+    go (yes z) =
+        let answer : State × ℕ = (continued r levels allowance, loweredBy r levels allowance) in
+        (0, answer, accepts answer z refl)
+    go (no n) = (first (continueRefusals r levels allowance), ((noRecord, false, levels), 0), refuses _ n refl)
 
 pub series-exist : SeriesExist
 unfolding IsSeries
 series-exist s [] = ([], tt, refl)
 series-exist s (allowance ∷ rest) =
     let (number, answer, meets) = answered (s .0) (s .2) allowance in
-    let call : Slice = record { run = s .0; levels = s .2; allowance = allowance; number = number; answer = answer } in
+    let call : Slice = record {
+      run = s .0;
+      levels = s .2;
+      allowance = allowance;
+      number = number;
+      answer = answer .0;
+      lowered = answer .1;
+    } in
     let (series, is, same) = series-exist (next s call) rest in
     (call ∷ series, (record { outcome = meets; own = λ _. (refl, refl) }, is), ap (λ l. allowance ∷ l) same)
 
@@ -115,6 +176,27 @@ accepted-exactly r levels started series p allowance number answer c =
     let here = cuts-do-not-show r levels started series p in
     let judged = ap (λ (t : State). first (continueRefusals (t .0) (t .2) allowance)) here in
     c .refusal ∙ judged ∙ rw (started-sound r levels started n (omega arith), levels-fit r levels started n (omega arith))
+
+-- COUNTS ADD UP: one call by as many rows goes from the start to where the series ends
+pub counts-add-up : CountsAddUp
+unfolding IsSeries after
+counts-add-up r levels started series p number answer lowered c =
+    let s = is-start started in
+    let n = rowsWorked r series in
+    let few = sound r (s .taken) .area-high in
+    let z : number ≡ 0 = accepted-exactly r levels started [] tt n number (answer, lowered) c ∙ rw (le-ltb mostRows n (omega arith)) in
+    let b = begins r levels s in
+    let e : min (0 + n) (due r) ≡ n = omega arith in
+    let m : min (0 + allowed series) (due r) ≡ n = omega arith in
+    let run = ap (λ (t : State). continued (t .0) (t .2) n) b ∙ longer r levels s 0 (omega arith) n ∙ ap (unbroken r levels) e in
+    let one = ap (λ (t : State). rowsLowered (areaOf r) 0 0 levels + loweredBy (t .0) (t .2) n) b
+    ∙ longer-lowered r levels s 0 (omega arith) n ∙ ap (λ k. rowsLowered (areaOf r) 0 k levels) e in
+    let all = cut-lowered r levels s 0 (omega arith) series (subst (λ t. IsSeries t series) b p)
+    ∙ ap (λ k. rowsLowered (areaOf r) 0 k levels) m in (
+      z,
+      cuts-do-not-show r levels started series p ∙ sym (ap (λ t. t .0) (c .accepted z) ∙ run),
+      omega (arith, one, all, ap (λ t. t .1) (c .accepted z)),
+    )
 
 -- no picture before all rows are done
 pub unfinished-refused : UnfinishedRefused

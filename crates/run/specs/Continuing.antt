@@ -7,7 +7,7 @@ use lib.Dec.{eqb, ltb}
 use lib.ListN.{length}
 use Rattle.basics.specs.Limits.{mostRows}
 use Rattle.basics.specs.Refusals.{Refusal, Answers}
-use Rattle.scan.specs.Scan.{scanRows}
+use Rattle.scan.specs.Scan.{scanRows, rowsLowered}
 use Rattle.run.specs.declared.Record.{Record}
 use Rattle.run.specs.Records.{areaWidth, areaHeight, areaOf, due, recordBad, noRecord}
 
@@ -35,14 +35,24 @@ withRows r rows = record {
 abbrev pub isDone : Record → Bool
 isDone r = eqb (r .rows) (due r)
 
--- the record, the levels and whether all is done, after an accepted continue: the row rule, for any levels lent
-abbrev pub continued : Record → List ℕ → ℕ → Record × Bool × List ℕ
+-- what a run has: its record, whether all rows are done, its levels
+abbrev pub State : Type 0
+State = Record × Bool × List ℕ
+
+-- the run after an accepted continue: the row rule, for any levels lent
+abbrev pub continued : Record → List ℕ → ℕ → State
 continued r levels allowance = (
   withRows r (r .rows + worked r allowance),
   isDone (withRows r (r .rows + worked r allowance)),
   scanRows (areaOf r) (r .rows) (worked r allowance) levels,
 )
 
-abbrev pub Continues : Record → List ℕ → ℕ → ℕ → Record × Bool × List ℕ → Type 0
+-- how many points its rows lower
+abbrev pub loweredBy : Record → List ℕ → ℕ → ℕ
+loweredBy r levels allowance = rowsLowered (areaOf r) (r .rows) (worked r allowance) levels
+
+-- the run and that count; beside a refusal no record and 0
+abbrev pub Continues : Record → List ℕ → ℕ → ℕ → State × ℕ → Type 0
 Continues r levels allowance =
-    Answers (continueRefusals r levels allowance) (noRecord, false, levels) (λ after. after ≡ continued r levels allowance)
+    Answers (continueRefusals r levels allowance) ((noRecord, false, levels), 0)
+    (λ after. after ≡ (continued r levels allowance, loweredBy r levels allowance))

@@ -2,7 +2,7 @@
 use Prim.Native.Nat.{ℕ, _+_, _*_, _≤_, _<_, min}
 use mathlib.Core.Path.{_≡_}
 use mathlib.Core.Logic.{_≢_}
-use mathlib.Core.Bool.{Bool, false, cond}
+use mathlib.Core.Bool.{false, cond}
 use mathlib.Core.List.{List, [], _∷_, map}
 use lib.Dec.{eqb, ltb}
 use lib.ListN.{length}
@@ -14,7 +14,7 @@ use Rattle.run.specs.declared.Record.{Record}
 use Rattle.run.specs.Records.{areaOf, due}
 use Rattle.run.specs.Starting.{StartsErosion, StartsDilation}
 use Rattle.run.specs.Pictures.{sizeLimit, collectRefusals, thresholdRefusals}
-use Rattle.run.specs.Continuing.{Continues, withRows, isDone}
+use Rattle.run.specs.Continuing.{State, Continues, withRows, isDone}
 
 -- a record and levels that an accepted start gives
 pub data Started : Record → List ℕ → Type 0 where
@@ -23,20 +23,18 @@ pub data Started : Record → List ℕ → Type 0 where
   dilation : (width height : ℕ) (sheet : List ℕ) (side : ℕ) (bytes : List ℕ) (cap : ℕ) (lent : List ℕ) {r : Record}
       {levels : List ℕ} → StartsDilation width height sheet side bytes cap lent 0 (r, levels) → Started r levels
 
--- what a run has: its record, whether all rows are done, its levels
-abbrev pub State : Type 0
-State = Record × Bool × List ℕ
-
 abbrev pub atStart : Record → List ℕ → State
 atStart r levels = (r, isDone r, levels)
 
--- a call of continue: the record and the levels that it got, its allowance, and its outcome: the number and what it answered
+-- a call of continue: the record and the levels that it got, its allowance, and its outcome: the number, what it answered, and
+-- how many points it says it lowered
 pub record Slice : Type 0 where
   pub run : Record
   pub levels : List ℕ
   pub allowance : ℕ
   pub number : ℕ
   pub answer : State
+  pub lowered : ℕ
 
 -- the run after a call: what an accepted one answered; after a refusal the same again
 abbrev pub next : State → Slice → State
@@ -45,7 +43,7 @@ next s call = cond (eqb (call .number) 0) (call .answer) s
 -- The premises: the outcome is one that the contract allows; an accepted call got the record last returned and the run's own
 -- levels. A refused one may have got anything.
 pub record Allowed (s : State) (call : Slice) : Type 0 where
-  pub outcome : Continues (call .run) (call .levels) (call .allowance) (call .number) (call .answer)
+  pub outcome : Continues (call .run) (call .levels) (call .allowance) (call .number) (call .answer, call .lowered)
   pub own : call .number ≡ 0 → (call .run ≡ s .0) × (call .levels ≡ s .2)
 
 unfoldable pub IsSeries : State → List Slice → Type 0
@@ -61,6 +59,11 @@ after s (call ∷ rest) = after (next s call) rest
 unfoldable pub allowed : List Slice → ℕ
 allowed [] = 0
 allowed (call ∷ rest) = cond (eqb (call .number) 0) (call .allowance) 0 + allowed rest
+
+-- what the counts of all calls sum to, refused ones too
+unfoldable pub counted : List Slice → ℕ
+counted [] = 0
+counted (call ∷ rest) = call .lowered + counted rest
 
 -- one unbroken scan of n rows
 abbrev pub unbroken : Record → List ℕ → ℕ → State
@@ -82,11 +85,19 @@ CutsDoNotShow =
     (r : Record) (levels : List ℕ) → Started r levels → (series : List Slice) → IsSeries (atStart r levels) series →
     after (atStart r levels) series ≡ unbroken r levels (rowsWorked r series)
 
+-- whatever the series, one unbroken call by as many rows is accepted, leaves the run where the series left it, and counts what the
+-- series counted
+abbrev pub CountsAddUp : Type 0
+CountsAddUp =
+    (r : Record) (levels : List ℕ) → Started r levels → (series : List Slice) → IsSeries (atStart r levels) series →
+    (number : ℕ) (answer : State) (lowered : ℕ) → Continues r levels (rowsWorked r series) number (answer, lowered) →
+    (number ≡ 0) × (after (atStart r levels) series ≡ answer) × (counted series ≡ lowered)
+
 -- a call with the run's own record and levels is accepted exactly up to an allowance of 8,192, and above it refused with 12
 abbrev pub AcceptedExactly : Type 0
 AcceptedExactly =
     (r : Record) (levels : List ℕ) → Started r levels → (series : List Slice) → IsSeries (atStart r levels) series →
-    (allowance number : ℕ) (answer : State) →
+    (allowance number : ℕ) (answer : State × ℕ) →
     Continues (after (atStart r levels) series .0) (after (atStart r levels) series .2) allowance number answer →
     number ≡ cond (ltb mostRows allowance) 12 0
 

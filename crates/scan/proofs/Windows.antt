@@ -14,8 +14,9 @@ use lib.ListN.{length, getD, take, drop, set, take-append-drop, length-take, len
 use lib.Seq.{length-take-le, take-all, getD-append-add}
 use borrow.Author.Tests.{le-leb, lt-ltb, le-ltb, eq-eqb, ne-eqb}
 use Rattle.row.specs.RowRule.{Area, none, more, cellNumber, within, levelAt, partner, firstMet, lowered, pointRule, place}
-use Rattle.row.specs.RowRule.{columns, rowRule}
+use Rattle.row.specs.RowRule.{columns, rowRule, pointsLowered}
 use Rattle.row.proofs.Least.{least-as}
+use Rattle.row.proofs.Lowered.{lowered-behind}
 use borrow.Rule.Slice.PartMut.{putMid}
 use Rattle.scan.specs.Scan.{area, Lent, Within, Reaches}
 
@@ -168,11 +169,25 @@ down-within reach row cells r = record { met = λ k a b c. go k (r .above k (ome
     go k h (no n) = inr (omega arith)
 
 -- what was lent from a place on comes back in its place
-pub lent-part : (at : ℕ) (levels after : List ℕ) (f : List ℕ → List ℕ) → after ≡ f (take (length levels - at) (drop at levels))
-    → putMid at (length levels - at) levels after ≡ take at levels ++ f (drop at levels)
-lent-part at levels after f e =
-    let nothing : drop (length levels - at) (drop at levels) ≡ [] =
-    drop-of-length-le (drop at levels) {i = length levels - at} (let d = length-drop at levels in omega arith) in
-    let all : take (length levels - at) (drop at levels) ≡ drop at levels =
-    take-all (length levels - at) (drop at levels) (let d = length-drop at levels in omega arith) in
-    rw (nothing, append-nil, e, all)
+module _ (at : ℕ) (levels : List ℕ) where
+  put-back : (after : List ℕ) → putMid at (length levels - at) levels after ≡ take at levels ++ after
+  put-back after =
+      let nothing : drop (length levels - at) (drop at levels) ≡ [] =
+      drop-of-length-le (drop at levels) {i = length levels - at} (let d = length-drop at levels in omega arith) in
+      rw (nothing, append-nil)
+
+  all-after : take (length levels - at) (drop at levels) ≡ drop at levels
+  all-after = take-all (length levels - at) (drop at levels) (let d = length-drop at levels in omega arith)
+
+  pub lent-part : (after : List ℕ) (f : List ℕ → List ℕ) → after ≡ f (take (length levels - at) (drop at levels))
+      → putMid at (length levels - at) levels after ≡ take at levels ++ f (drop at levels)
+  lent-part after f e = put-back after ∙ rw (e, all-after)
+
+  -- and what was lowered there was lowered in the whole
+  pub lent-lowered : (after : List ℕ)
+      → pointsLowered (take (length levels - at) (drop at levels)) after
+      ≡ pointsLowered levels (putMid at (length levels - at) levels after)
+  lent-lowered after =
+      rw (all-after, put-back after)
+      (sym (lowered-behind (take at levels) (drop at levels) after)
+      ∙ ap (λ l. pointsLowered l (take at levels ++ after)) (take-append-drop at levels))

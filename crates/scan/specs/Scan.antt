@@ -7,7 +7,7 @@ use mathlib.Core.Bool.{Bool, true, false, cond}
 use mathlib.Core.List.{List}
 use lib.Dec.{ltb}
 use Rattle.basics.specs.Limits.{longestSide}
-use Rattle.row.specs.RowRule.{Area, cellNumber, firstMet, rowRule}
+use Rattle.row.specs.RowRule.{Area, cellNumber, firstMet, rowRule, pointsLowered}
 
 -- the row that is worked after `done` rows
 unfoldable pub scanRow : Area → ℕ → List ℕ → List ℕ
@@ -19,6 +19,12 @@ scanRow area done levels =
 unfoldable pub scanRows : Area → ℕ → ℕ → List ℕ → List ℕ
 scanRows area done zero levels = levels
 scanRows area done (suc n) levels = scanRows area (suc done) n (scanRow area done levels)
+
+-- how many points these rows lower, each row counted by itself
+unfoldable pub rowsLowered : Area → ℕ → ℕ → List ℕ → ℕ
+rowsLowered area done zero levels = 0
+rowsLowered area done (suc n) levels =
+    pointsLowered levels (scanRow area done levels) + rowsLowered area (suc done) n (scanRow area done levels)
 
 abbrev pub area : ℕ → ℕ → ℕ → List (List ℕ) → Area
 area width height beyond cells = record { width = width; height = height; beyond = beyond; cells = cells }

@@ -1,12 +1,16 @@
-// A scan of rows over lent levels: each row is worked in the part of the levels that begins where document 01 says.
+// A scan of rows over lent levels: each row is worked in the part of the levels that begins where document 01 says, and how many
+// points it lowers is answered.
 ghost use mathlib.Core.Path.{_≡_};
 ghost use Prim.Native.Nat.{_+_, _<_, _≤_, min};
-ghost use Rattle.row.specs.RowRule.{rowRule};
-ghost use Rattle.scan.specs.Scan.{area, Lent, Within, Reaches, scanRow, scanRows};
+ghost use lib.ListN.{length};
+ghost use Rattle.basics.specs.Limits.{longestSide};
+ghost use Rattle.row.specs.RowRule.{rowRule, pointsLowered};
+ghost use Rattle.scan.specs.Scan.{area, Lent, Within, Reaches, scanRow, scanRows, rowsLowered};
 
 // A row, in the part of the levels that begins at row `start`.
 fn row_in_part(
     levels: &mut [u16],
+    worked: &mut [u16],
     width: usize,
     height: usize,
     start: usize,
@@ -14,20 +18,23 @@ fn row_in_part(
     upward: bool,
     cells: [[u8; 7]; 7],
     beyond: u16,
-)
-    requires { ⌜ Lent width height (now levels) × ((start ≤ row) × ((row < height) × Within upward start row cells)) ⌝ }
-    ensures { λ _. ⌜ now (levels .exit) ≡ rowRule (area width height beyond cells) upward row (now (levels .entry)) ⌝ }
+) -> usize
+    requires { ⌜ Lent width height (now levels) × ((length (now worked) ≡ longestSide) ×
+        ((start ≤ row) × ((row < height) × Within upward start row cells))) ⌝ }
+    ensures { λ r. ⌜ (now (levels .exit) ≡ rowRule (area width height beyond cells) upward row (now (levels .entry))) ×
+        (r ≡ pointsLowered (now (levels .entry)) (now (levels .exit))) ⌝ }
 {
     let at = start * width;
     row::row_rule(
         &mut levels[at..],
+        worked,
         width,
         height - start,
         row - start,
         upward,
         cells,
         beyond,
-    );
+    )
 }
 
 pub fn lesser(a: usize, b: usize) -> usize
@@ -40,23 +47,35 @@ pub fn lesser(a: usize, b: usize) -> usize
 // that begins `reach` rows higher, or at row 0 where there are fewer.
 fn scan_row(
     levels: &mut [u16],
+    worked: &mut [u16],
     width: usize,
     height: usize,
     done: usize,
     reach: usize,
     cells: [[u8; 7]; 7],
     beyond: u16,
-)
-    requires { ⌜ Lent width height (now levels) × ((done < height + height) × Reaches reach cells) ⌝ }
-    ensures { λ _. ⌜ now (levels .exit) ≡ scanRow (area width height beyond cells) done (now (levels .entry)) ⌝ }
+) -> usize
+    requires { ⌜ Lent width height (now levels) × ((length (now worked) ≡ longestSide) ×
+        ((done < height + height) × Reaches reach cells)) ⌝ }
+    ensures { λ r. ⌜ (now (levels .exit) ≡ scanRow (area width height beyond cells) done (now (levels .entry))) ×
+        (r ≡ pointsLowered (now (levels .entry)) (now (levels .exit))) ⌝ }
 {
     if done < height {
         let start = done - lesser(done, reach);
-        row_in_part(levels, width, height, start, done, false, cells, beyond);
-        return;
+        return row_in_part(
+            levels,
+            worked,
+            width,
+            height,
+            start,
+            done,
+            false,
+            cells,
+            beyond,
+        );
     }
     let row = height + height - 1 - done;
-    row_in_part(levels, width, height, row, row, true, cells, beyond);
+    row_in_part(levels, worked, width, height, row, row, true, cells, beyond)
 }
 
 // `count` rows, after `done` rows.
@@ -69,13 +88,26 @@ pub fn scan_rows(
     reach: usize,
     cells: [[u8; 7]; 7],
     beyond: u16,
-)
+) -> usize
     requires { ⌜ Lent width height (now levels) × ((done + count ≤ height + height) × Reaches reach cells) ⌝ }
-    ensures { λ _. ⌜ now (levels .exit) ≡ scanRows (area width height beyond cells) done count (now (levels .entry)) ⌝ }
+    ensures { λ r. ⌜ (now (levels .exit) ≡ scanRows (area width height beyond cells) done count (now (levels .entry))) ×
+        (r ≡ rowsLowered (area width height beyond cells) done count (now (levels .entry))) ⌝ }
 {
+    let mut worked = [0u16; basics::LONGEST_SIDE];
+    let mut lowered = 0;
     let mut n = 0;
     while n < count {
-        scan_row(levels, width, height, done + n, reach, cells, beyond);
+        lowered += scan_row(
+            levels,
+            &mut worked,
+            width,
+            height,
+            done + n,
+            reach,
+            cells,
+            beyond,
+        );
         n += 1;
     }
+    lowered
 }

@@ -88,21 +88,33 @@ fn on_run(name: Name, record: &[u64], levels: &[u16], number: u64, answer: (Fiel
     call
 }
 
+/// A slice of rows: its number, and what it leaves.
+fn slice(record: &[u64], levels: &[u16], rows: u64) -> (u32, Call) {
+    let answer = (Field::WordsOut, 2);
+    number_and_after(&on_run(Name::Continue, record, levels, rows, answer))
+}
+
 /// The record and the levels after a start and so many rows.
 fn worked(start: &Call, rows: u64) -> (Vec<u64>, Vec<u16>) {
     let (number, started) = number_and_after(start);
     if number != 0 {
         return (Vec::new(), Vec::new());
     }
-    let slice = on_run(
-        Name::Continue,
-        &started.words_out,
-        &started.levels,
-        rows,
-        (Field::WordsOut, 1),
-    );
-    let (_, after) = number_and_after(&slice);
+    let (_, after) = slice(&started.words_out, &started.levels, rows);
     (after.record, after.levels)
+}
+
+/// How many points each of some slices says it lowers.
+fn lowered(start: &Call, slices: &[u64]) -> Vec<u64> {
+    let (_, started) = number_and_after(start);
+    let (mut record, mut levels) = (started.words_out, started.levels);
+    let mut counts = Vec::new();
+    for rows in slices {
+        let (_, after) = slice(&record, &levels, *rows);
+        counts.push(after.words_out[1]);
+        (record, levels) = (after.record, after.levels);
+    }
+    counts
 }
 
 /// The collected levels of a whole run; empty where something was refused.
@@ -217,11 +229,7 @@ fn case_9() -> bool {
     let number = |name, sheet: &Drawn, cap| number_and_after(&given(name, sheet, &CROSS, cap)).0;
     let (number_before, started) =
         number_and_after(&given(Name::StartErosion, &full(3, 3), &CROSS, 0));
-    let allowed = |allowance| {
-        let (record, levels) = (&started.words_out, &started.levels);
-        let answer = (Field::WordsOut, 1);
-        number_and_after(&on_run(Name::Continue, record, levels, allowance, answer)).0
-    };
+    let allowed = |allowance| slice(&started.words_out, &started.levels, allowance).0;
     number(Name::StartErosion, &full(4096, 1), 0) == 0
         && number(Name::StartErosion, &full(1, 4096), 0) == 0
         && number(Name::StartErosion, &full(4097, 1), 0) == 2
@@ -252,6 +260,22 @@ fn case_10() -> bool {
     clear.bytes.len() == 6
         && four_transforms(&clear, &CROSS) == four_transforms(&set, &CROSS)
         && sheets(&clear) == sheets(&set)
+}
+
+/// Points lowered, worked out by hand: a full sheet of 3 by 3 in any slices, and slices that cross blank rows.
+fn points_lowered() -> bool {
+    let full = given(Name::StartErosion, &full(3, 3), &CROSS, 0);
+    let blank = drawn(&["000", "000", "000"]);
+    let eroded = given(Name::StartErosion, &blank, &CROSS, 0);
+    let dilated = given(Name::StartDilation, &blank, &CROSS, 1);
+    // The point's canvas is 3 by 3, the point in its middle: row by row its neighbours fall, below right and below first.
+    let point = given(Name::StartDilation, &drawn(&["1"]), &CROSS, 1);
+    lowered(&full, &[1; 6]) == [3, 3, 3, 2, 1, 0]
+        && lowered(&full, &[2, 0, 4]) == [6, 0, 6]
+        && lowered(&full, &[8192]) == [12]
+        && lowered(&eroded, &[3, 3]) == [0, 0]
+        && lowered(&dilated, &[8192]) == [0]
+        && lowered(&point, &[1; 6]) == [0, 1, 2, 1, 1, 3]
 }
 
 /// The largest sheet, full, with the box: the level is the distance to the nearest border.
@@ -300,7 +324,7 @@ fn longest_opening() -> bool {
 
 type Case = (&'static str, fn() -> bool);
 
-const CASES: [Case; 13] = [
+const CASES: [Case; 14] = [
     ("case 1: full 3 by 3, cross", case_1),
     ("case 2: full 5 by 1, right neighbour", case_2),
     ("case 3: the same, reflected", case_3),
@@ -311,6 +335,7 @@ const CASES: [Case; 13] = [
     ("case 8: empty sheet, and one point", case_8),
     ("case 9: the ends of the ranges", case_9),
     ("case 10: padding bits", case_10),
+    ("points lowered, and blank slices", points_lowered),
     ("largest frame: erosion of 4,096 by 4,096", largest_erosion),
     ("largest canvas: dilation with cap 2,047", largest_dilation),
     ("longest opening: sizes up to 4,096", longest_opening),

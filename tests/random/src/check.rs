@@ -81,7 +81,8 @@ pub fn call_on_run(name: Name, record: &[u64], levels: &[u16], number: u64) -> C
 }
 
 /// A run in slices: every slice follows the row rule, refused calls change nothing and count for nothing, no picture
-/// is given before the end, and at every cut the run stands where one unbroken call would have brought it.
+/// is given before the end, and at every cut the run stands where one unbroken call would have brought it, which
+/// lowers as many points as the slices together. Over all rows no point counts more than twice.
 pub fn check_series(tally: &mut Tally, dice: &mut Dice, start: &Call) {
     const TEST: &str = "series of slices equal one unbroken call";
     let Some((0, started)) = check(tally, start) else {
@@ -89,6 +90,7 @@ pub fn check_series(tally: &mut Tally, dice: &mut Dice, start: &Call) {
     };
     let (mut record, mut levels) = (started.words_out.clone(), started.levels.clone());
     let rows_due = 2 * levels.len() as u64 / canvas_width(start);
+    let mut lowered = 0;
     loop {
         if dice.percent(15) {
             // A refused call in between.
@@ -111,6 +113,7 @@ pub fn check_series(tally: &mut Tally, dice: &mut Dice, start: &Call) {
             return;
         };
         (record, levels) = (after.record, after.levels);
+        lowered += after.words_out[1];
 
         tally.tried(TEST);
         let unbroken = call_on_run(
@@ -122,8 +125,8 @@ pub fn check_series(tally: &mut Tally, dice: &mut Dice, start: &Call) {
         let whole = perform(&unbroken);
         let same = matches!(&whole, Ok((0, whole)) if whole.record == record
             && whole.levels == levels
-            && whole.words_out == after.words_out
-            && whole.words_out == [u64::from(record[5] == rows_due)]);
+            && whole.words_out == [u64::from(record[5] == rows_due), lowered]
+            && lowered <= 2 * levels.len() as u64);
         if !same && tally.differs(TEST) {
             // The slices follow the rules, so it is the unbroken call that doesn't.
             let small = shrink(&unbroken, differs);

@@ -7,7 +7,7 @@ use crate::definitions;
 use crate::dice::Dice;
 use crate::raw::perform;
 use crate::report::{describe, Tally};
-use crate::rules::{element_set, frame_points, judge, sheet_set};
+use crate::rules::{element_set, frame_points, judge, points_below, sheet_set};
 use crate::shrink::shrink;
 use crate::sound::allowance;
 
@@ -91,14 +91,6 @@ fn look(
     Ok(())
 }
 
-/// Whether some level of the first list is below its level in the second.
-fn any_below(levels: &[u16], others: &[u16]) -> bool {
-    levels
-        .iter()
-        .zip(others)
-        .any(|(level, other)| level < other)
-}
-
 /// Where a run is cut.
 #[derive(Clone, Copy, Debug)]
 pub enum Cuts {
@@ -123,7 +115,7 @@ fn compare_looks(start: &Call, cuts: Cuts) -> Result<(), String> {
     };
     let mut done = false;
     loop {
-        if any_below(&levels, &last.levels) {
+        if points_below(&levels, &last.levels) > 0 {
             return Err(format!(
                 "    a level is below its final one after {} rows\n",
                 record[5]
@@ -145,7 +137,7 @@ fn compare_looks(start: &Call, cuts: Cuts) -> Result<(), String> {
                 record[5], after.record[5]
             ));
         }
-        if any_below(&levels, &after.levels) {
+        if points_below(&levels, &after.levels) > 0 {
             return Err(format!(
                 "    a level is raised within {} rows\n",
                 after.record[5]

@@ -86,7 +86,7 @@ pub fn due_length(call: &Call, field: Field) -> u128 {
         (_, Field::Cells) => u128::from(call.side) * u128::from(call.side),
         (_, Field::Record) => RECORD_WORDS as u128,
         (Name::StartErosion | Name::StartDilation, Field::WordsOut) => RECORD_WORDS as u128,
-        (Name::ReadPbm, Field::WordsOut) => 2,
+        (Name::Continue | Name::ReadPbm, Field::WordsOut) => 2,
         (_, Field::WordsOut) => 1,
         (Name::Continue | Name::Collect | Name::Threshold | Name::Provisional, Field::Levels) => {
             let record = record_of(call);
@@ -381,11 +381,14 @@ fn accept(call: &mut Call) {
         Name::Continue => {
             let record = record_of(call);
             let rows = call.number.min(record.rows_due() - record.rows_done);
+            let mut lowered = 0;
             for row in 0..rows {
+                let before = call.levels.clone();
                 record.work_row(&mut call.levels, record.rows_done + row);
+                lowered += points_below(&call.levels, &before);
             }
             call.record[5] = record.rows_done + rows;
-            call.words_out = vec![u64::from(call.record[5] == record.rows_due())];
+            call.words_out = vec![u64::from(call.record[5] == record.rows_due()), lowered];
         }
         Name::Collect => {
             let record = record_of(call);
@@ -435,6 +438,12 @@ fn accept(call: &mut Call) {
         Name::WritePbm => write(call, &pbm_file(call)),
         Name::WritePgm => write(call, &pgm_file(&record_of(call), &call.levels)),
     }
+}
+
+/// How many levels of the first list are below their level in the second.
+pub fn points_below(levels: &[u16], others: &[u16]) -> u64 {
+    let pairs = levels.iter().zip(others);
+    pairs.filter(|(level, other)| level < other).count() as u64
 }
 
 /// The sheet that a run's levels hold at the call's size.

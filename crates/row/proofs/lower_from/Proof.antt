@@ -1,36 +1,45 @@
--- The loop's invariant: the first i levels have had their pass. A turn reads a level that the pass has left as it was.
+-- The loop's invariant: the first i levels have had their pass.
 use borrow.Author.Needs.{needs}
 use native.Mathlib.Omega.{arith}
-use Prim.Native.Nat.{_+_, _-_, _≤_, _<_}
+use Prim.Native.Nat.{_+_, _-_, _≤_}
 use lib.ListN.{getD}
+use Rattle.row.specs.RowRule.{more}
 use Rattle.row.specs.Passes.{Pass}
-use Rattle.row.proofs.Pass.{pass-start, pass-turn, pass-end, pass-unread}
+use Rattle.row.proofs.Pass.{put-start, pass-turn, put-end}
 use Rattle.row.proofs.lower_from.Statement.{statement}
 use Rattle.row.proofs.lower_from.Tie as tie
 
 abbrev Inv-loop : tie.InvT-loop
-Inv-loop part₀ at from n i₀ part i = (i ≤ n) × Pass at i (λ j. getD part₀ (from + j) 0) part₀ part
+Inv-loop worked₀ at part from n i₀ worked i = (i ≤ n) × Pass at i (λ j. more (getD part (from + j) 0)) worked₀ worked
 
 abbrev μ-loop : tie.MeasureT-loop
-μ-loop part₀ at from n i₀ part i = n - i
+μ-loop worked₀ at part from n i₀ worked i = n - i
+
+loop-holds : tie.Need-loop-holds Inv-loop μ-loop
+loop-holds c = (search needs, put-start _ _ _)
 
 loop-again : tie.Need-loop-again Inv-loop μ-loop
 loop-again c =
-    let at-loop = c .before .before .before .before .before .before in
-    let s = at-loop .before .before in
-    let a = s .args in
-    let l = at-loop .loop in
-    let p = l .inv .1 in
-    let low = c .before .before .lower in
-    let h : l .i < a .n = omega arith in (
+    let earlier = c .before .before .before .before .before .before .before .before .before in
+    let args = earlier .before .args in
+    let loop = c .before .before .before .before .before .before .before .loop in
+    let one-more = c .before .before .before .one-more in
+    let lower = c .before .before .lower in (
       omega arith,
-      pass-turn (a .at) _ (a .part .now) (l .i) (l .part) (low .last .0) (omega arith)
-          (rw (← pass-unread _ _ _ _ _ _ _ h (s .pre .1 .1) p) (low .ensures)) p,
+      pass-turn (args .at) _ (args .worked .now) (loop .i) (loop .worked) (lower .last .0) (omega arith)
+          (rw (← one-more .ensures) (lower .ensures)) (loop .inv .1),
     )
+
+same-length : tie.Need-same-length Inv-loop μ-loop
+same-length c = c .before .loop .inv .1 .size
+
+returns : tie.Need-returns Inv-loop μ-loop
+returns c =
+    let loop = c .before .loop in
+    put-end _ _ _ _ _ _ (loop .inv .0) (c .loop-test .left) (loop .inv .1)
 
 pub lower-from-spec : {M : Type 1} → statement M
 lower-from-spec =
-    tie.close (tie.spec Inv-loop μ-loop (λ c. (search needs, pass-start _ _ _)) (λ c. search needs) (λ c. search needs)
-    (λ c. search needs) (λ c. search needs) (λ c κs. search needs) (λ c. search needs) (λ c. search needs) loop-again
-    (λ c. search needs)
-    (λ c. pass-end _ _ _ _ _ _ (c .before .loop .inv .0) (c .loop-test .left) (c .before .loop .inv .1)))
+    tie.close (tie.spec Inv-loop μ-loop loop-holds (λ c. search needs) (λ c. search needs) (λ c. search needs)
+    (λ c. search needs) (λ c κs. search needs) (λ c κs. search needs) (λ c. search needs) (λ c. search needs) loop-again
+    same-length returns)

@@ -54,8 +54,8 @@ add-with-rows c =
     let l = lesser .ensures in
     omega arith
 
-add-t12 : tie.Need-add-t12
-add-t12 c =
+add-t13 : tie.Need-add-t13
+add-t13 c =
     let args = c .before .before .before .before .before .before .before .before .before .before .before .args in
     let continue-refusal = c .before .before .before .before .before .before .before .before .continue-refusal in
     let if1 = c .before .before .before .before .before .before .before .if1 in
@@ -76,12 +76,12 @@ returns-2 c =
     let lesser = c .before .before .before .before .before .lesser in
     let work-rows = c .before .before .before .work-rows in
     continue-accepts (args .run) (args .levels .now) (args .allowance) (sym (continue-refusal .ensures) ∙ if1 .left)
-    (c .with-rows .result) (work-rows .last .1 .0) (lesser .result) (rows-due .result)
+    (c .with-rows .result) (work-rows .last .1 .0) (lesser .result) (rows-due .result) (work-rows .result)
     (lesser .ensures ∙ ap (λ n. min (args .allowance) (n - args .run .rows)) (rows-due .ensures .0)) (rows-due .ensures .0)
-    (c .with-rows .ensures) (work-rows .ensures)
+    (c .with-rows .ensures) (work-rows .ensures .0) (work-rows .ensures .1)
 
 pub continue-run-spec : {M : Type 1} → statement M
 continue-run-spec =
     tie.close (tie.spec (λ c κs. search needs) (λ c κs. search needs) (λ c. search needs) returns rows-due-requires
-    sub-lesser (λ c κs. search needs) work-rows-requires add-with-rows (λ c κs. search needs) add-t12
+    sub-lesser (λ c κs. search needs) work-rows-requires add-with-rows (λ c κs. search needs) add-t13
     (λ c. search needs) returns-2)

@@ -5,7 +5,7 @@ use Rattle.run.proofs.continuing.refused.Statement.{statement}
 use Rattle.run.proofs.continuing.refused.Tie as tie
 
 returns : tie.Need-returns
-returns c = λ i. record { refusal = c .before .args .number; run = c .no-record .ensures i; done = false }
+returns c = λ i. record { refusal = c .before .args .number; run = c .no-record .ensures i; done = false; lowered = 0 }
 
 pub refused-spec : {M : Type 1} → statement M
 refused-spec = tie.close (tie.spec (λ c κs. search needs) returns)

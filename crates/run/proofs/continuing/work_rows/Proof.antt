@@ -2,8 +2,10 @@
 use Rattle.element.proofs.ElementLaws.{side-bounds}
 use Rattle.run.proofs.RecordLaws.{sound}
 use Rattle.run.proofs.ScanCells.{scan-reaches}
-use Rattle.run.proofs.ContinueLaws.{work-lent, work-rows}
+use Rattle.run.proofs.ContinueLaws.{work-lent, work-area}
 use borrow.Author.Needs.{needs}
+use mathlib.Core.Path.{ap, _∙_}
+use Rattle.scan.specs.Scan.{scanRows, rowsLowered}
 use native.Mathlib.Omega.{arith}
 use Rattle.run.proofs.continuing.work_rows.Statement.{statement}
 use Rattle.run.proofs.continuing.work_rows.Tie as tie
@@ -36,9 +38,12 @@ returns c =
     let area-height = c .before .before .before .before .before .before .before .area-height in
     let scan-cells = c .before .before .before .before .before .before .scan-cells in
     let beyond-of = c .before .before .before .before .before .beyond-of in
-    work-rows (args .run) (sound (args .run) (pre .0)) (args .levels .now) (pre .1 .0) _ _ (area-width .ensures .0)
-    (area-height .ensures .0) _ _
-    (beyond-of .ensures) (scan-cells .ensures) (args .run .rows) (args .count) _ (c .before .before .scan-rows .ensures)
+    let same = work-area (args .run) (sound (args .run) (pre .0)) (args .levels .now) (pre .1 .0) _ _ (area-width .ensures .0)
+    (area-height .ensures .0) _ _ (beyond-of .ensures) (scan-cells .ensures) in
+    let scan-rows = c .before .before .scan-rows in (
+      scan-rows .ensures .0 ∙ ap (λ a. scanRows a (args .run .rows) (args .count) (args .levels .now)) same,
+      scan-rows .ensures .1 ∙ ap (λ a. rowsLowered a (args .run .rows) (args .count) (args .levels .now)) same,
+    )
 
 pub work-rows-spec : {M : Type 1} → statement M
 work-rows-spec =
