@@ -89,13 +89,13 @@ module _ (upward : Bool) (width beyond : ℕ) where
     pub near-is : near ≡ levelBack upward width beyond levels t 1
     pub middle-is : middle ≡ levelBack upward width beyond levels t 2
     pub far-is : far ≡ levelBack upward width beyond levels t 3
-    pub small : (near ≤ none) × ((middle ≤ none) × (far ≤ none))
+    pub small : near ≤ none
     pub so-far : levels ≡ ownColumns upward width one two three beyond t entry
 
   pub kept-start : (one two three : Bool) (entry : List ℕ) → beyond ≤ none → Kept one two three 0 beyond beyond beyond entry entry
   unfolding levelBack ownColumns
   kept-start one two three entry small =
-      record { near-is = refl; middle-is = refl; far-is = refl; small = (small, (small, small)); so-far = refl }
+      record { near-is = refl; middle-is = refl; far-is = refl; small = small; so-far = refl }
 
   pub kept-turn : (one two three : Bool) (t near middle far level : ℕ) (entry levels after : List ℕ) → t < width
       → width ≤ length levels →
@@ -111,35 +111,30 @@ module _ (upward : Bool) (width beyond : ℕ) where
         near-is = rw (L .stored) (sym (back-now levels t level turn room));
         middle-is = rw (L .stored) (K .near-is ∙ sym (back-next levels t level 1 turn (omega arith)));
         far-is = rw (L .stored) (K .middle-is ∙ sym (back-next levels t level 2 turn (omega arith)));
-        small = (omega (arith, L .small), (K .small .0, K .small .1 .0));
+        small = omega (arith, L .small);
         so-far = rw (add-one, ← K .so-far, ← K .near-is, ← K .middle-is, ← K .far-is, L .stored, low);
       }
 
-  -- the same where the nearest cell alone is set, with its level in a local
-  pub record Near (t near : ℕ) (entry levels : List ℕ) : Type 0 where
-    pub near-is : near ≡ levelBack upward width beyond levels t 1
-    pub small : near ≤ none
-    pub so-far : levels ≡ ownColumns upward width true false false beyond t entry
+  -- where the nearest cell alone is set one local is enough: what the others would be does not matter
+  abbrev pub Near : ℕ → ℕ → List ℕ → List ℕ → Type 0
+  Near t near entry levels =
+      Kept true false false t near (levelBack upward width beyond levels t 2) (levelBack upward width beyond levels t 3) entry levels
 
   pub near-start : (entry : List ℕ) → beyond ≤ none → Near 0 beyond entry entry
-  unfolding levelBack ownColumns
-  near-start entry small = record { near-is = refl; small = small; so-far = refl }
+  unfolding levelBack
+  near-start entry small = kept-start true false false entry small
+
+  alone : (x near middle far : ℕ) → x ≤ none
+      → min x (min (near + 1) (min none none)) ≡ min x (min (near + step true) (min (middle + step false) (far + step false)))
+  unfolding step
+  alone x near middle far small = omega arith
 
   pub near-turn : (t near level : ℕ) (entry levels after : List ℕ) → t < width → width ≤ length levels → Near t near entry levels
       → Lowest levels after (place upward width t) (near + 1) none none level → Near (t + 1) level entry after
-  unfolding ownColumns ownPoint picked
   near-turn t near level entry levels after turn room N L =
-      let at : ℕ = place upward width t in
-      let low : level ≡ min (getD levels at 0) (more (min near (min none none))) = L .value
-      ∙ only (getD levels at 0) near (L .small) (N .small) in
-      record {
-        near-is = rw (L .stored) (sym (back-now levels t level turn room));
-        small = omega (arith, L .small, L .value);
-        so-far = rw (add-one, ← N .so-far, ← N .near-is, L .stored, low);
-      }
-    where
-      only : (x y : ℕ) → x ≤ none → y ≤ none → min x (min (y + 1) (min none none)) ≡ min x (more (min y (min none none)))
-      only x y a b = omega arith
+      let K = kept-turn true false false t near _ _ level entry levels after turn room N
+      (record { small = L .small; value = L .value ∙ alone _ near _ _ (L .small); stored = L .stored }) in
+      record { near-is = K .near-is; middle-is = refl; far-is = refl; small = K .small; so-far = K .so-far }
 
   -- two turns of it
   pub near-two : (t near level : ℕ) (entry levels after : List ℕ) → t + 1 < width → width ≤ length levels → Near t near entry levels

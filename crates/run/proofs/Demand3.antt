@@ -54,70 +54,48 @@ module _ (r : Record) (levels : List ℕ) (s : IsStart r levels) where
         ap (λ m. rowsLowered (areaOf r) 0 n levels + rowsLowered (areaOf r) m count (scanRows (areaOf r) 0 n levels)) (sym z)
         ∙ sym (lowered-add (areaOf r) 0 n count levels) ∙ ap (λ m. rowsLowered (areaOf r) 0 m levels) e
 
-    -- after one call, accepted or refused
-    stepped : (call : Slice) → Allowed (unbroken r levels n) call
-        → next (unbroken r levels n) call
-        ≡ unbroken r levels (min (n + cond (eqb (call .number) 0) (call .allowance) 0) (due r))
+    -- after one call, accepted or refused, the run is an unbroken scan, and so is its count
+    stepped : (call : Slice) → Allowed (unbroken r levels n) call →
+        let m = min (n + cond (eqb (call .number) 0) (call .allowance) 0) (due r) in
+        (next (unbroken r levels n) call ≡ unbroken r levels m)
+        × (rowsLowered (areaOf r) 0 n levels + call .lowered ≡ rowsLowered (areaOf r) 0 m levels)
     stepped call p = go (eqb (call .number) 0) refl
       where
-        accepted : call .number ≡ 0 → call .answer ≡ unbroken r levels (min (n + call .allowance) (due r))
-        accepted z =
+        go : (t : Bool) → eqb (call .number) 0 ≡ t →
+            let m = min (n + cond t (call .allowance) 0) (due r) in
+            (cond t (call .answer) (unbroken r levels n) ≡ unbroken r levels m)
+            × (rowsLowered (areaOf r) 0 n levels + call .lowered ≡ rowsLowered (areaOf r) 0 m levels)
+        go true e =
+            let z = eqb-true (call .number) 0 e in
             let own = p .own z in
-            ap (λ t. t .0) (p .outcome .accepted z) ∙ (λ i. continued (own .0 i) (own .1 i) (call .allowance)) ∙ longer (call .allowance)
-
-        go : (t : Bool) → eqb (call .number) 0 ≡ t
-            → cond t (call .answer) (unbroken r levels n) ≡ unbroken r levels (min (n + cond t (call .allowance) 0) (due r))
-        go true e = accepted (eqb-true (call .number) 0 e)
-        go false e = ap (unbroken r levels) (let z : n ≡ min (n + 0) (due r) = omega arith in z)
-
-    stepped-lowered : (call : Slice) → Allowed (unbroken r levels n) call
-        → rowsLowered (areaOf r) 0 n levels + call .lowered
-        ≡ rowsLowered (areaOf r) 0 (min (n + cond (eqb (call .number) 0) (call .allowance) 0) (due r)) levels
-    stepped-lowered call p = go (eqb (call .number) 0) refl
-      where
-        accepted : call .number ≡ 0 → call .lowered ≡ loweredBy (withRows r n) (scanRows (areaOf r) 0 n levels) (call .allowance)
-        accepted z =
-            let own = p .own z in
-            ap (λ t. t .1) (p .outcome .accepted z) ∙ (λ i. loweredBy (own .0 i) (own .1 i) (call .allowance))
-
-        refused : call .number ≢ 0 → call .lowered ≡ 0
-        refused z = ap (λ t. t .1) (p .outcome .refused z)
-
-        go : (t : Bool) → eqb (call .number) 0 ≡ t
-            → rowsLowered (areaOf r) 0 n levels + call .lowered
-            ≡ rowsLowered (areaOf r) 0 (min (n + cond t (call .allowance) 0) (due r)) levels
-        go true e = rw (accepted (eqb-true (call .number) 0 e)) (longer-lowered (call .allowance))
+            let q = p .outcome .accepted z ∙ (λ i. (
+              continued (own .0 i) (own .1 i) (call .allowance),
+              loweredBy (own .0 i) (own .1 i) (call .allowance),
+            )) in
+            (ap (λ t. t .0) q ∙ longer (call .allowance), rw (ap (λ t. t .1) q) (longer-lowered (call .allowance)))
         go false e =
-            let z : n ≡ min (n + 0) (due r) = omega arith in
-            rw (refused (λ q. true≢false (sym (eq-eqb (call .number) 0 q) ∙ e)), add-zero)
-            (ap (λ m. rowsLowered (areaOf r) 0 m levels) z)
+            let none = ap (λ t. t .1) (p .outcome .refused (λ z. true≢false (sym (eq-eqb (call .number) 0 z) ∙ e))) in
+            let same : n ≡ min (n + 0) (due r) = omega arith in
+            (ap (unbroken r levels) same, rw (none, add-zero) (ap (λ k. rowsLowered (areaOf r) 0 k levels) same))
 
-  cut : (n : ℕ) → n ≤ due r → (series : List Slice) → IsSeries (unbroken r levels n) series
-      → after (unbroken r levels n) series ≡ unbroken r levels (min (n + allowed series) (due r))
-  unfolding IsSeries after allowed
-  cut n within [] p = ap (unbroken r levels) (let e : n ≡ min (n + 0) (due r) = omega arith in e)
+  cut : (n : ℕ) → n ≤ due r → (series : List Slice) → IsSeries (unbroken r levels n) series →
+      let m = min (n + allowed series) (due r) in
+      (after (unbroken r levels n) series ≡ unbroken r levels m)
+      × (rowsLowered (areaOf r) 0 n levels + counted series ≡ rowsLowered (areaOf r) 0 m levels)
+  unfolding IsSeries after allowed counted
+  cut n within [] p =
+      let e : n ≡ min (n + 0) (due r) = omega arith in
+      (ap (unbroken r levels) e, rw add-zero (ap (λ k. rowsLowered (areaOf r) 0 k levels) e))
   cut n within (call ∷ series) p =
       let a = cond (eqb (call .number) 0) (call .allowance) 0 in
       let m = min (n + a) (due r) in
-      let q = stepped n within call (p .0) in
+      let (q, c) = stepped n within call (p .0) in
       let rest = cut m (omega arith) series (subst (λ t. IsSeries t series) q (p .1)) in
-      let e : min (m + allowed series) (due r) ≡ min (n + (a + allowed series)) (due r) = omega arith in
-      ap (λ t. after t series) q ∙ rest ∙ ap (unbroken r levels) e
-
-  cut-lowered : (n : ℕ) → n ≤ due r → (series : List Slice) → IsSeries (unbroken r levels n) series
-      → rowsLowered (areaOf r) 0 n levels + counted series ≡ rowsLowered (areaOf r) 0 (min (n + allowed series) (due r)) levels
-  unfolding IsSeries allowed counted
-  cut-lowered n within [] p =
-      let e : n ≡ min (n + 0) (due r) = omega arith in
-      rw add-zero (ap (λ m. rowsLowered (areaOf r) 0 m levels) e)
-  cut-lowered n within (call ∷ series) p =
-      let a = cond (eqb (call .number) 0) (call .allowance) 0 in
-      let m = min (n + a) (due r) in
-      let step = stepped-lowered n within call (p .0) in
-      let rest = cut-lowered m (omega arith) series (subst (λ t. IsSeries t series) (stepped n within call (p .0)) (p .1)) in
-      let e : min (m + allowed series) (due r) ≡ min (n + (a + allowed series)) (due r) = omega arith in
-      sym (add-assoc (rowsLowered (areaOf r) 0 n levels) (call .lowered) (counted series))
-      ∙ ap (λ c. c + counted series) step ∙ rest ∙ ap (λ k. rowsLowered (areaOf r) 0 k levels) e
+      let e : min (m + allowed series) (due r) ≡ min (n + (a + allowed series)) (due r) = omega arith in (
+        ap (λ t. after t series) q ∙ rest .0 ∙ ap (unbroken r levels) e,
+        sym (add-assoc (rowsLowered (areaOf r) 0 n levels) (call .lowered) (counted series))
+            ∙ ap (λ k. k + counted series) c ∙ rest .1 ∙ ap (λ k. rowsLowered (areaOf r) 0 k levels) e,
+      )
 
   -- a start is an unbroken scan of no rows
   pub begins : atStart r levels ≡ unbroken r levels 0
@@ -133,7 +111,7 @@ cuts-do-not-show r levels started series p =
     let b = begins r levels s in
     let n = cut r levels s 0 (omega arith) series (subst (λ t. IsSeries t series) b p) in
     let e : min (0 + allowed series) (due r) ≡ rowsWorked r series = omega arith in
-    ap (λ t. after t series) b ∙ n ∙ ap (unbroken r levels) e
+    ap (λ t. after t series) b ∙ n .0 ∙ ap (unbroken r levels) e
 
 -- and there are series: each call is answered
 answered : (r : Record) (levels : List ℕ) (allowance : ℕ)
@@ -191,7 +169,7 @@ counts-add-up r levels started series p number answer lowered c =
     let run = ap (λ (t : State). continued (t .0) (t .2) n) b ∙ longer r levels s 0 (omega arith) n ∙ ap (unbroken r levels) e in
     let one = ap (λ (t : State). rowsLowered (areaOf r) 0 0 levels + loweredBy (t .0) (t .2) n) b
     ∙ longer-lowered r levels s 0 (omega arith) n ∙ ap (λ k. rowsLowered (areaOf r) 0 k levels) e in
-    let all = cut-lowered r levels s 0 (omega arith) series (subst (λ t. IsSeries t series) b p)
+    let all = cut r levels s 0 (omega arith) series (subst (λ t. IsSeries t series) b p) .1
     ∙ ap (λ k. rowsLowered (areaOf r) 0 k levels) m in (
       z,
       cuts-do-not-show r levels started series p ∙ sym (ap (λ t. t .0) (c .accepted z) ∙ run),

@@ -11,7 +11,8 @@ use Rattle.row.proofs.by_three.Tie as tie
 
 abbrev Inv-loop : tie.InvT-loop
 Inv-loop worked₀ width upward one two three beyond from-near from-middle from-far near₀ middle₀ far₀ t₀ worked near middle far t =
-    (t ≤ width) × ((length worked ≡ length worked₀) × Kept upward width beyond one two three t near middle far worked₀ worked)
+    (t ≤ width) × ((length worked ≡ length worked₀) × (((middle ≤ none) × (far ≤ none))
+    × Kept upward width beyond one two three t near middle far worked₀ worked))
 
 abbrev μ-loop : tie.MeasureT-loop
 μ-loop worked₀ width upward one two three beyond from-near from-middle from-far near₀ middle₀ far₀ t₀ worked near middle far t =
@@ -21,7 +22,7 @@ loop-holds : tie.Need-loop-holds Inv-loop μ-loop
 loop-holds c =
     let args = c .before .before .before .before .before .args in
     let small : args .beyond ≤ none = omega arith in
-    (omega arith, (refl, rw (c .wide .ensures .0) (kept-start _ _ _ _ _ _ _ small)))
+    (omega arith, (refl, ((omega arith, omega arith), rw (c .wide .ensures .0) (kept-start _ _ _ _ _ _ _ small))))
 
 lower-to-least-requires : tie.Need-lower-to-least-requires Inv-loop μ-loop
 lower-to-least-requires c κs =
@@ -48,9 +49,12 @@ loop-again c =
       omega arith,
       (
         lower-to-least .kept .0 ∙ loop .inv .1 .0,
-        kept-turn (args .upward) (args .width) (args .beyond) (args .one) (args .two) (args .three) (loop .t) (loop .near)
-            (loop .middle) (loop .far) (lower-to-least .result) (args .worked .now) (loop .worked) (lower-to-least .last .0)
-            (omega arith) (omega arith) (loop .inv .1 .1) lowest,
+        (
+          (loop .inv .1 .1 .1 .small, loop .inv .1 .1 .0 .0),
+          kept-turn (args .upward) (args .width) (args .beyond) (args .one) (args .two) (args .three) (loop .t) (loop .near)
+              (loop .middle) (loop .far) (lower-to-least .result) (args .worked .now) (loop .worked) (lower-to-least .last .0)
+              (omega arith) (omega arith) (loop .inv .1 .1 .1) lowest,
+        ),
       ),
     )
 
@@ -62,7 +66,7 @@ returns c =
     let args = c .before .before .before .before .before .before .before .args in
     let loop = c .before .loop in
     let all : loop .t ≡ args .width = omega arith in
-    rw all at (loop .inv .1 .1 .so-far)
+    rw all at (loop .inv .1 .1 .1 .so-far)
 
 pub by-three-spec : {M : Type 1} → statement M
 by-three-spec =

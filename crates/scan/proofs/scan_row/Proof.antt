@@ -12,13 +12,14 @@ row-in-part-requires : tie.Need-row-in-part-requires
 row-in-part-requires c κs =
     let start = c .before .before .before .before .before .before in
     let args = c .before .before .before .before .before .before .args in
-    let if1 = c .before .before .before .if1 in (
+    let if1 = c .before .before .before .if1 in
+    let lesser = c .before .before .lesser in (
       start .pre .0,
       (
         start .pre .1 .0,
         (
           omega arith,
-          (if1 .taken, rw (c .before .before .lesser .ensures) (down-within (args .reach) (args .done) (args .cells) (start .pre .1 .1 .1))),
+          (if1 .taken, rw (lesser .ensures) (down-within (args .reach) (args .done) (args .cells) (start .pre .1 .1 .1))),
         ),
       ),
     )
