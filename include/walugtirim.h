@@ -8,15 +8,19 @@
  *
  *   sheet     The raster of a raw PBM: rows from top to bottom, each padded to a whole byte, the leftmost pixel in
  *             the highest bit, 1 is foreground. Padding bits are ignored on reading and 0 on writing. A sheet of
- *             WIDTH by HEIGHT has HEIGHT * ((WIDTH + 7) / 8) bytes. All beyond the frame is background.
+ *             WIDTH by HEIGHT has HEIGHT * ((WIDTH + 7) / 8) bytes. All beyond the frame is background, but for a
+ *             cropped run.
  *   frame     The width and height of a sheet, each 1 to 4,096.
  *   element   A side (3, 5 or 7) and side * side cells, each 0 or 1, row by row, the origin at the centre. The
  *             centre is 1 and at least one other cell is 1. Its reach is (side - 1) / 2, whatever the cells hold.
- *   cap       Written R: the largest size a dilation or closing is asked for, 0 to 2,047.
- *   canvas    What a dilation or closing works on: the frame with a margin of R * reach on all four sides. No side
- *             of it may exceed 4,096. Erosion and opening work on the frame itself, which is then the area.
+ *   cropped   Of a run: the erosion of a sheet that was cropped from a larger one, so that its border is no real edge.
+ *             All beyond the frame is foreground.
+ *   cap       Written R: the largest size a dilation, a closing or a cropped run is asked for, 0 to 2,047.
+ *   canvas    What a dilation, a closing or a cropped run works on: the frame with a margin of R * reach on all four
+ *             sides. No side of it may exceed 4,096. Erosion and opening work on the frame itself, which is then the
+ *             area.
  *   levels    16-bit numbers, row by row, one for each point of a frame or canvas. 65,535 is "nothing found yet".
- *   record    55 words that say what a run is and how far it has come: see WT_RECORD_WORDS below.
+ *   record    56 words that say what a run is and how far it has come: see WT_RECORD_WORDS below.
  *
  * Slices
  *
@@ -32,7 +36,7 @@
  * Refusals
  *
  *     1   the record is none that a start could give (rows done aside), or its rows done exceed the rows due in
- *         all; also a record slice of another length than 55
+ *         all; also a record slice of another length than 56
  *     2   a frame side outside 1 to 4,096
  *     3   the sheet's length is not the height times the bytes of a row
  *     4   the element's side is not 1, 3, 5 or 7, or its length is not the side squared
@@ -63,15 +67,18 @@ extern "C" {
 /*
  * The layout of a record. The 49 cells are the element as seven rows of seven, a smaller one centred.
  *
- *   word 0        kind: 1 is an erosion, 2 a dilation
+ *   word 0        kind: 1 is an erosion, cropped or not, 2 a dilation
  *   word 1        width of the frame
  *   word 2        height of the frame
- *   word 3        cap (0 for an erosion)
+ *   word 3        cap (0 for an erosion that is not cropped)
  *   word 4        side of the element as given: 3, 5 or 7
- *   word 5        rows done: 0 to 2 * H, where H is the height of the frame (erosion) or of the canvas (dilation)
- *   words 6..54   cells
+ *   word 5        rows done: 0 to 2 * H, where H is the height of the frame (erosion) or of the canvas (dilation, cropped)
+ *   words 6..54   cells of the element as given
+ *   word 55       edge rule, what lies beyond the frame: 0 is background, 1 foreground (cropped)
+ *
+ * Kind 1 goes with both edge rules, kind 2 with 0 alone.
  */
-#define WT_RECORD_WORDS 55
+#define WT_RECORD_WORDS 56
 
 #define WT_RECORD_KIND 0
 #define WT_RECORD_WIDTH 1
@@ -80,9 +87,13 @@ extern "C" {
 #define WT_RECORD_SIDE 4
 #define WT_RECORD_ROWS_DONE 5
 #define WT_RECORD_CELLS 6
+#define WT_RECORD_EDGE 55
 
 #define WT_KIND_EROSION 1
 #define WT_KIND_DILATION 2
+
+#define WT_EDGE_BACKGROUND 0
+#define WT_EDGE_FOREGROUND 1
 
 /* The largest values accepted. */
 #define WT_MOST_FRAME_SIDE 4096
@@ -98,9 +109,9 @@ extern "C" {
  *   sheet           the sheet
  *   side, cells     the element
  *   levels          width * height levels; becomes 65,535 on the foreground and 0 elsewhere
- *   record          55 words; becomes the record of the run, with 0 rows done
+ *   record          56 words; becomes the record of the run, with 0 rows done
  *
- * Refusals, in order: 2, 3, 4, 5, 6, 7, 10, 11 (record not 55 words).
+ * Refusals, in order: 2, 3, 4, 5, 6, 7, 10, 11 (record not 56 words).
  */
 uint32_t wt_start_erosion(uint64_t width, uint64_t height,
                           const uint8_t *sheet, size_t sheet_len,
@@ -117,9 +128,9 @@ uint32_t wt_start_erosion(uint64_t width, uint64_t height,
  *   side, cells     the element
  *   cap             R, 0 to 2,047
  *   levels          as many levels as the canvas has points; becomes 1 on the foreground and 65,535 elsewhere
- *   record          55 words; becomes the record of the run, with 0 rows done
+ *   record          56 words; becomes the record of the run, with 0 rows done
  *
- * Refusals, in order: 2, 3, 4, 5, 6, 7, 8, 9, 10, 11 (record not 55 words).
+ * Refusals, in order: 2, 3, 4, 5, 6, 7, 8, 9, 10, 11 (record not 56 words).
  */
 uint32_t wt_start_dilation(uint64_t width, uint64_t height,
                            const uint8_t *sheet, size_t sheet_len,
@@ -130,10 +141,33 @@ uint32_t wt_start_dilation(uint64_t width, uint64_t height,
                            uint64_t *record, size_t record_len);
 
 /*
+ * Starts a cropped run, the erosion of a sheet that was cropped from a larger one; no row is worked yet. What is eroded, by
+ * sizes up to R, is the sheet's foreground together with all points beyond the frame.
+ *
+ *   width, height   the frame
+ *   sheet           the sheet
+ *   side, cells     the element
+ *   cap             R, 0 to 2,047
+ *   levels          as many levels as the canvas has points; becomes 1 on the frame's background points and 65,535
+ *                   elsewhere
+ *   record          56 words; becomes the record of the run, with 0 rows done
+ *
+ * Refusals, in order: 2, 3, 4, 5, 6, 7, 8, 9, 10, 11 (record not 56 words).
+ */
+uint32_t wt_start_cropped(uint64_t width, uint64_t height,
+                          const uint8_t *sheet, size_t sheet_len,
+                          uint64_t side,
+                          const uint8_t *cells, size_t cells_len,
+                          uint64_t cap,
+                          uint16_t *levels, size_t levels_len,
+                          uint64_t *record, size_t record_len);
+
+/*
  * Continues a run by so many rows, or by the rows still due where these are fewer.
  *
- *   record      55 words, the record last given; its rows done grow by the rows worked, all else stays
- *   levels      the run's levels, as many as its frame (erosion) or canvas (dilation) has points; worked row by row
+ *   record      56 words, the record last given; its rows done grow by the rows worked, all else stays
+ *   levels      the run's levels, as many as its frame (erosion) or canvas (dilation, cropped) has points; worked row by
+ *               row
  *   allowance   rows to work, 0 to 8,192
  *   answer      2 words; the first becomes 1 when all rows are done, else 0, the second the number of points lowered:
  *               for each row worked, the points whose level after the row is smaller than before it, summed over the rows
@@ -154,7 +188,11 @@ uint32_t wt_continue(uint64_t *record, size_t record_len,
  *   record   the run's record
  *   levels   the run's levels
  *   out      width * height levels of the frame. For an erosion the levels are copied; for a dilation the frame's
- *            part of the canvas is taken, with 0 for every level above R + 1.
+ *            part of the canvas is taken, with 0 for every level above R + 1. For a cropped run that part is taken with
+ *            every level of 1 to R + 1 given one less, 65,535 for every level above that, and 0 for 0.
+ *
+ * So a cropped run's level of at most R is the erosion level with foreground beyond the frame, and 65,535 says that it is
+ * more than R: eroding by R still holds the point.
  *
  * Refusals, in order: 1, 10, 11, 13.
  */
@@ -167,9 +205,9 @@ uint32_t wt_collect(const uint64_t *record, size_t record_len,
  *
  *   record   the run's record
  *   levels   the run's own levels (not collected ones)
- *   size     n: 0 to 4,096 for an erosion, 0 to R for a dilation
- *   out      a sheet of the frame. A pixel is foreground where its level is above n (erosion), or 1 to n + 1
- *            (dilation).
+ *   size     n: 0 to 4,096 for an erosion, 0 to R for a dilation or a cropped run
+ *   out      a sheet of the frame. A pixel is foreground where its level is above n (erosion) or 1 to n + 1 (dilation),
+ *            or where its level as wt_collect gives it is above n (cropped).
  *
  * Refusals, in order: 1, 8, 10, 11, 13.
  */
@@ -180,14 +218,15 @@ uint32_t wt_threshold(const uint64_t *record, size_t record_len,
 
 /*
  * Looks at a run that may have rows still due: the rule of wt_threshold on the levels as they stand. The sheet is no
- * picture until it is final. Of a run that was started and continued as it should be, an erosion's sheet holds the eroded
- * set and perhaps more, a dilation's lies within the dilated set; of a finished run it is what wt_threshold gives.
+ * picture until it is final. Of a run that was started and continued as it should be, an erosion's sheet, cropped or not,
+ * holds the eroded set and perhaps more, a dilation's lies within the dilated set; of a finished run it is what
+ * wt_threshold gives.
  *
  *   record   the run's record
  *   levels   the run's own levels as they stand, also such that no start gave
- *   size     n: 0 to 4,096 for an erosion, 0 to R for a dilation
- *   out      a sheet of the frame. A pixel is foreground where its level is above n (erosion), or 1 to n + 1
- *            (dilation).
+ *   size     n: 0 to 4,096 for an erosion, 0 to R for a dilation or a cropped run
+ *   out      a sheet of the frame. A pixel is foreground where its level is above n (erosion) or 1 to n + 1 (dilation),
+ *            or where its level as wt_collect gives it is above n (cropped).
  *   state    1 word; becomes 1 where all rows are done and the sheet is final, else 0: it is provisional
  *
  * Refusals, in order: 1, 8, 10, 11 (out of another length, or state not 1 word).
@@ -326,8 +365,8 @@ uint32_t wt_write_pbm(uint64_t width, uint64_t height,
 
 /*
  * Writes the levels of a finished run as a plain PGM: "P2"; the remark "# rows DONE of DUE"; width and height; the
- * maximum (the larger side of the frame for an erosion, R + 1 for a dilation); then the levels. Each row of the frame
- * begins a line, no line is longer than 70 characters, and every line ends with LF.
+ * maximum (the larger side of the frame for an erosion, R + 1 for a dilation, 65,535 for a cropped run); then the levels.
+ * Each row of the frame begins a line, no line is longer than 70 characters, and every line ends with LF.
  *
  *   record   the run's record
  *   levels   width * height levels, as collected

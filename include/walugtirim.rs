@@ -6,6 +6,8 @@ extern "C" {
         cells_len: usize, levels: *mut u16, levels_len: usize, record: *mut u64, record_len: usize) -> u32;
     pub fn wt_start_dilation(width: u64, height: u64, sheet: *const u8, sheet_len: usize, side: u64, cells: *const u8,
         cells_len: usize, cap: u64, levels: *mut u16, levels_len: usize, record: *mut u64, record_len: usize) -> u32;
+    pub fn wt_start_cropped(width: u64, height: u64, sheet: *const u8, sheet_len: usize, side: u64, cells: *const u8,
+        cells_len: usize, cap: u64, levels: *mut u16, levels_len: usize, record: *mut u64, record_len: usize) -> u32;
     pub fn wt_continue(record: *mut u64, record_len: usize, levels: *mut u16, levels_len: usize, allowance: u64,
         answer: *mut u64, answer_len: usize) -> u32;
     pub fn wt_collect(record: *const u64, record_len: usize, levels: *const u16, levels_len: usize, out: *mut u16,

@@ -6,8 +6,10 @@
  *   netpbm pixels IN.pbm                     reads a sheet, prints its pixels
  *   netpbm erosion IN.pbm OUT.pgm            erodes with the cross, writes and prints the levels
  *   netpbm dilation IN.pbm CAP OUT.pgm       dilates with the cross, writes and prints the levels
+ *   netpbm cropped IN.pbm CAP OUT.pgm        erodes likewise, with foreground beyond the frame
  *   netpbm eroded IN.pbm SIZE OUT.pbm        erodes by one size with the cross, writes the sheet and prints its pixels
  *   netpbm dilated IN.pbm SIZE OUT.pbm       dilates likewise
+ *   netpbm crop-eroded IN.pbm SIZE OUT.pbm   erodes likewise, with foreground beyond the frame
  *
  * A refusal prints "refused", a blank and the number.
  */
@@ -146,13 +148,17 @@ static Run erode(const Sheet *sheet)
     return finish(run);
 }
 
-static Run dilate(const Sheet *sheet, uint64_t cap)
+/* wt_start_dilation or wt_start_cropped, which take the same. */
+typedef uint32_t CanvasStart(uint64_t, uint64_t, const uint8_t *, size_t, uint64_t, const uint8_t *, size_t, uint64_t,
+                             uint16_t *, size_t, uint64_t *, size_t);
+
+static Run run_on_canvas(CanvasStart *start, const Sheet *sheet, uint64_t cap)
 {
     Run run;
     run.levels_len = (size_t)((sheet->width + 2 * cap) * (sheet->height + 2 * cap));
     run.levels = room(run.levels_len * sizeof(uint16_t));
-    accept(wt_start_dilation(sheet->width, sheet->height, sheet->pixels, sheet->pixels_len, 3, cross, 9, cap,
-                             run.levels, run.levels_len, run.record, WT_RECORD_WORDS));
+    accept(start(sheet->width, sheet->height, sheet->pixels, sheet->pixels_len, 3, cross, 9, cap, run.levels,
+                 run.levels_len, run.record, WT_RECORD_WORDS));
     return finish(run);
 }
 
@@ -200,13 +206,19 @@ int main(int count, char **words)
         Run run = erode(&sheet);
         write_levels(&sheet, &run, words[3]);
     } else if (strcmp(command, "dilation") == 0 && count == 5) {
-        Run run = dilate(&sheet, number_of(words[3]));
+        Run run = run_on_canvas(wt_start_dilation, &sheet, number_of(words[3]));
+        write_levels(&sheet, &run, words[4]);
+    } else if (strcmp(command, "cropped") == 0 && count == 5) {
+        Run run = run_on_canvas(wt_start_cropped, &sheet, number_of(words[3]));
         write_levels(&sheet, &run, words[4]);
     } else if (strcmp(command, "eroded") == 0 && count == 5) {
         Run run = erode(&sheet);
         write_size(&sheet, &run, number_of(words[3]), words[4]);
     } else if (strcmp(command, "dilated") == 0 && count == 5) {
-        Run run = dilate(&sheet, number_of(words[3]));
+        Run run = run_on_canvas(wt_start_dilation, &sheet, number_of(words[3]));
+        write_size(&sheet, &run, number_of(words[3]), words[4]);
+    } else if (strcmp(command, "crop-eroded") == 0 && count == 5) {
+        Run run = run_on_canvas(wt_start_cropped, &sheet, number_of(words[3]));
         write_size(&sheet, &run, number_of(words[3]), words[4]);
     } else {
         stop("see the head of netpbm.c");

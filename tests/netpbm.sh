@@ -97,6 +97,12 @@ for frame in "1 1" "7 3" "8 3" "9 5" "1 20" "31 17" "35 2" "36 2" "100 4" "333 3
         is_kind "$name-dilation.pgm" "PGM plain, $width by $height *maxval 13\$"
     check "PGM of a dilation, $width by $height: levels" same "$levels" "$(netpbm_levels "$name-dilation.pgm")"
     check "PGM of a dilation, $width by $height: lines" lines_are_short "$name-dilation.pgm"
+
+    levels=$(driver cropped "$name.pbm" 2 "$name-cropped.pgm" | tr -s ' \n' '\n')
+    check "PGM of a crop, $width by $height: kind, frame, maximum" \
+        is_kind "$name-cropped.pgm" "PGM plain, $width by $height *maxval 65535\$"
+    check "PGM of a crop, $width by $height: levels" same "$levels" "$(netpbm_levels "$name-cropped.pgm")"
+    check "PGM of a crop, $width by $height: lines" lines_are_short "$name-cropped.pgm"
 done
 for frame in "36 2" "100 4" "333 3"; do
     width=${frame% *}
@@ -132,16 +138,16 @@ check "Netpbm's plain PBM is refused with 21" same "refused 21" "$(driver pixels
 check "Netpbm's PGM is refused with 21" same "refused 21" "$(driver pixels ramp.pgm)"
 
 # 3. Erosion and dilation by Netpbm's own pgmmorphconv, with the cross, step by step. Its template is the white part
-# of a picture and its foreground the bright part, so ours are inverted; a border of background stands for the infinite
-# grid, wide enough for the steps taken.
+# of a picture and its foreground the bright part, so ours are inverted; a border stands for the infinite grid, wide
+# enough for the steps taken: white is background, and black the foreground beyond a crop.
 printf 'P1\n3 3\n101\n000\n101\n' >cross.pbm
 
-# steps KIND COUNT IN.pbm: the pixels after so many steps.
+# steps KIND COUNT IN.pbm BORDER: the pixels after so many steps.
 steps() {
     border=$(($2 + 2))
     width=$(pamfile -size "$3" | cut -d ' ' -f 1)
     height=$(pamfile -size "$3" | cut -d ' ' -f 2)
-    pnmpad -white -left=$border -right=$border -top=$border -bottom=$border "$3" | pnminvert | pgmtopgm >step.pgm
+    pnmpad "-$4" -left=$border -right=$border -top=$border -bottom=$border "$3" | pnminvert | pgmtopgm >step.pgm
     step=0
     while [ $step -lt "$2" ]; do
         pgmmorphconv "-$1" cross.pbm step.pgm >next.pgm && mv next.pgm step.pgm
@@ -155,9 +161,11 @@ steps() {
 for name in text ellipse dither sheet-31-17; do
     for size in 0 1 2 3; do
         check "\"$name\" eroded by $size, as pgmmorphconv does" \
-            same "$(driver eroded "$name.pbm" $size eroded.pbm | tr -d '\n')" "$(steps erode $size "$name.pbm")"
+            same "$(driver eroded "$name.pbm" $size eroded.pbm | tr -d '\n')" "$(steps erode $size "$name.pbm" white)"
         check "\"$name\" dilated by $size, as pgmmorphconv does" \
-            same "$(driver dilated "$name.pbm" $size dilated.pbm | tr -d '\n')" "$(steps dilate $size "$name.pbm")"
+            same "$(driver dilated "$name.pbm" $size dilated.pbm | tr -d '\n')" "$(steps dilate $size "$name.pbm" white)"
+        check "\"$name\" as a crop, eroded by $size, as pgmmorphconv does" \
+            same "$(driver crop-eroded "$name.pbm" $size eroded.pbm | tr -d '\n')" "$(steps erode $size "$name.pbm" black)"
     done
 done
 

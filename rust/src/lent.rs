@@ -51,14 +51,22 @@ pub fn start_erosion(given: Given, levels: &mut [u16]) -> Result<Record, Refusal
     Ok(record)
 }
 
-/// Starts a dilation up to a cap and answers its record. The levels are as many as the canvas has points.
-///
-/// # Errors
-/// 2 to 10, the first that applies.
-pub fn start_dilation(given: Given, cap: u64, levels: &mut [u16]) -> Result<Record, Refusal> {
+/// The C type of `wt_start_dilation` and `wt_start_cropped`.
+#[rustfmt::skip]
+type CanvasStart = unsafe extern "C" fn(
+    u64, u64, *const u8, usize, u64, *const u8, usize, u64, *mut u16, usize, *mut u64, usize,
+) -> u32;
+
+/// Calls one of these two with a cap.
+fn start_on_canvas(
+    call: CanvasStart,
+    given: Given,
+    cap: u64,
+    levels: &mut [u16],
+) -> Result<Record, Refusal> {
     let mut record = [0; RECORD_WORDS];
     let number = unsafe {
-        c::wt_start_dilation(
+        call(
             given.width,
             given.height,
             given.sheet.as_ptr(),
@@ -75,6 +83,23 @@ pub fn start_dilation(given: Given, cap: u64, levels: &mut [u16]) -> Result<Reco
     };
     Refusal::check(number)?;
     Ok(record)
+}
+
+/// Starts a dilation up to a cap and answers its record. The levels are as many as the canvas has points.
+///
+/// # Errors
+/// 2 to 10, the first that applies.
+pub fn start_dilation(given: Given, cap: u64, levels: &mut [u16]) -> Result<Record, Refusal> {
+    start_on_canvas(c::wt_start_dilation, given, cap, levels)
+}
+
+/// Starts the erosion of a cropped sheet, with foreground beyond its frame, up to a cap, and answers its record. The
+/// levels are as many as the canvas has points.
+///
+/// # Errors
+/// 2 to 10, the first that applies.
+pub fn start_cropped(given: Given, cap: u64, levels: &mut [u16]) -> Result<Record, Refusal> {
+    start_on_canvas(c::wt_start_cropped, given, cap, levels)
 }
 
 /// What a slice of rows answers.
@@ -115,7 +140,8 @@ pub fn continue_run(
     })
 }
 
-/// Gives the levels of the frame, once all rows are done.
+/// Gives the levels of the frame, once all rows are done. Of a cropped sheet's erosion,
+/// [`MORE_THAN_CAP`](crate::MORE_THAN_CAP) is one above the cap.
 ///
 /// # Errors
 /// 1, 10, 11, 13, the first that applies.

@@ -1,9 +1,10 @@
 //! Erosion, dilation, opening and closing of bilevel sheets, over the verified library `libharness.a`.
 //!
 //! A [`Sheet`] is a set of foreground points on the infinite grid, seen through a frame; all beyond the frame is
-//! background. An [`Element`] is a small set around its origin. A [`Run`] finds, at every point of the frame, up to
-//! which size an erosion keeps it or from which size a dilation reaches it; it can be worked in slices of rows, and
-//! gives no picture before all its rows are done. [`Run::provisional`] is a look at one under way.
+//! background, but for [`Run::start_cropped`], where it is foreground. An [`Element`] is a small set around its origin.
+//! A [`Run`] finds, at every point of the frame, up to which size an erosion keeps it or from which size a dilation
+//! reaches it; it can be worked in slices of rows, and gives no picture before all its rows are done.
+//! [`Run::provisional`] is a look at one under way.
 //!
 //! ```
 //! use walugtirim::{Element, Run, Sheet};
@@ -32,10 +33,17 @@ pub use refusal::Refusal;
 use lent::{Given, Record, State};
 
 /// The words of a record.
-pub const RECORD_WORDS: usize = 55;
+pub const RECORD_WORDS: usize = 56;
 
 /// The largest allowance that [`Run::continue_by`] accepts.
 pub const MOST_ALLOWANCE: u64 = 8192;
+
+/// What [`Run::collect`] gives of a run that [`Run::start_cropped`] began, where the erosion level is above the cap:
+/// eroding by the cap still holds the point.
+pub const MORE_THAN_CAP: u16 = 65535;
+
+/// The type of [`lent::start_dilation`] and [`lent::start_cropped`].
+type CanvasStart = fn(Given, u64, &mut [u16]) -> Result<Record, Refusal>;
 
 /// The type of [`lent::open`] and [`lent::close`].
 type Filter = fn(Given, u64, &mut [u16], &mut [u16], &mut [u8]) -> Result<(), Refusal>;
@@ -263,9 +271,47 @@ impl Run {
     /// # Errors
     /// 2 to 9, the lowest that applies.
     pub fn start_dilation(sheet: &Sheet, element: &Element, cap: u64) -> Result<Run, Refusal> {
+        Run::start_on_canvas(lent::start_dilation, sheet, element, cap)
+    }
+
+    /// Starts the erosion of a sheet that was cropped from a larger one, up to a cap of 0 to 2047; no row is worked yet.
+    ///
+    /// A crop's border is no real edge, so nothing is eaten from it: all beyond the frame is foreground. Collected
+    /// levels up to the cap are erosion levels, and [`MORE_THAN_CAP`] is any above it.
+    ///
+    /// ```
+    /// use walugtirim::{Element, Run, Sheet, MORE_THAN_CAP};
+    ///
+    /// # fn main() -> Result<(), walugtirim::Refusal> {
+    /// let mut sheet = Sheet::new(3, 3, vec![0xE0; 3]);
+    /// let mut run = Run::start_cropped(&sheet, &Element::cross(), 2)?;
+    /// run.finish()?;
+    /// assert_eq!(run.collect()?, [MORE_THAN_CAP; 9]);
+    ///
+    /// sheet.set_pixel(1, 1, false);
+    /// let mut run = Run::start_cropped(&sheet, &Element::cross(), 2)?;
+    /// run.finish()?;
+    /// assert_eq!(run.collect()?, [2, 1, 2, 1, 0, 1, 2, 1, 2]);
+    /// # Ok(())
+    /// # }
+    /// ```
+    ///
+    /// # Errors
+    /// 2 to 9, the lowest that applies.
+    pub fn start_cropped(sheet: &Sheet, element: &Element, cap: u64) -> Result<Run, Refusal> {
+        Run::start_on_canvas(lent::start_cropped, sheet, element, cap)
+    }
+
+    /// Starts a run with as many levels as the canvas of the cap has points.
+    fn start_on_canvas(
+        start: CanvasStart,
+        sheet: &Sheet,
+        element: &Element,
+        cap: u64,
+    ) -> Result<Run, Refusal> {
         let area = room::canvas_points(sheet.width, sheet.height, element.side, cap);
         let mut levels = vec![0; area];
-        let record = lent::start_dilation(sheet.given(element), cap, &mut levels)?;
+        let record = start(sheet.given(element), cap, &mut levels)?;
         Ok(Run { record, levels })
     }
 
@@ -283,14 +329,14 @@ impl Run {
         (self.record, self.levels)
     }
 
-    /// The record: kind, width, height, cap, side, rows done, and the 49 cells of the element.
+    /// The record: kind, width, height, cap, side, rows done, the 49 cells of the element, and the edge rule.
     #[must_use]
     pub fn record(&self) -> &[u64; RECORD_WORDS] {
         &self.record
     }
 
-    /// The levels as they stand, of the frame (erosion) or of the whole canvas (dilation). They are no picture: that
-    /// is what [`Run::collect`] gives, once all rows are done.
+    /// The levels as they stand, of the frame (erosion) or of the whole canvas (dilation, cropped sheet). They are no
+    /// picture: that is what [`Run::collect`] gives, once all rows are done.
     #[must_use]
     pub fn levels(&self) -> &[u16] {
         &self.levels
@@ -337,7 +383,8 @@ impl Run {
         Ok(())
     }
 
-    /// The finished levels of the frame, row by row.
+    /// The finished levels of the frame, row by row. A dilation's is 0 where none up to `cap + 1` was found, and that of
+    /// a cropped sheet's erosion [`MORE_THAN_CAP`] where it is above the cap.
     ///
     /// # Errors
     /// 1, 10 or 13, the lowest that applies.
@@ -347,7 +394,8 @@ impl Run {
         Ok(levels)
     }
 
-    /// The eroded or dilated sheet of one size: up to 4096 for an erosion, up to the cap for a dilation.
+    /// The eroded or dilated sheet of one size: up to 4096 for an erosion, up to the cap for a dilation or the erosion of
+    /// a cropped sheet.
     ///
     /// # Errors
     /// 1, 8, 10 or 13, the lowest that applies.
@@ -415,7 +463,8 @@ pub enum Look {
 /// The sheet of a run that has rows still due. It is no picture, and so no [`Sheet`]: it can be looked at, but not
 /// filtered, started from or written to a file.
 ///
-/// An erosion's holds every point of the eroded set and perhaps more; a dilation's lies within the dilated set.
+/// An erosion's, of a cropped sheet or not, holds every point of the eroded set and perhaps more; a dilation's lies
+/// within the dilated set.
 #[derive(Clone, Debug, PartialEq, Eq)]
 pub struct ProvisionalSheet {
     sheet: Sheet,

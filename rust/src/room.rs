@@ -48,10 +48,10 @@ pub fn pbm_bytes(raster: usize) -> usize {
     raster.saturating_add("P4\n4096 4096\n".len())
 }
 
-/// Enough bytes for a plain PGM: its four header lines, then for each level at most four digits and the blank or line
-/// end after it. No level above the maximum is written, and the maximum never exceeds 4,096.
+/// Enough bytes for a plain PGM: its four header lines, then for each level at most five digits and the blank or line
+/// end after it. No level above the maximum is written, and the maximum never exceeds 65,535.
 pub fn pgm_bytes(points: usize) -> usize {
     points
-        .saturating_mul(5)
-        .saturating_add("P2\n# rows 8192 of 8192\n4096 4096\n4096\n".len())
+        .saturating_mul(6)
+        .saturating_add("P2\n# rows 8192 of 8192\n4096 4096\n65535\n".len())
 }

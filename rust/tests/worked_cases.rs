@@ -1,7 +1,7 @@
 //! The small sheets of document 01, worked by hand, through the safe functions; and that no argument, however wrong,
 //! does more than be refused.
 
-use walugtirim::{Element, Look, Refusal, Run, Sheet};
+use walugtirim::{Element, Look, Refusal, Run, Sheet, MORE_THAN_CAP, RECORD_WORDS};
 
 /// A sheet of one row, `1` being foreground.
 fn row(pixels: &str) -> Sheet {
@@ -27,6 +27,18 @@ fn dilation(sheet: &Sheet, element: &Element, cap: u64) -> Vec<u16> {
     let mut run = Run::start_dilation(sheet, element, cap).unwrap();
     run.finish().unwrap();
     run.collect().unwrap()
+}
+
+/// The erosion levels of a cropped sheet.
+fn cropped(sheet: &Sheet, element: &Element, cap: u64) -> Vec<u16> {
+    let mut run = Run::start_cropped(sheet, element, cap).unwrap();
+    run.finish().unwrap();
+    run.collect().unwrap()
+}
+
+/// A sheet of 3 by 3 with its centre unset.
+fn ring() -> Sheet {
+    Sheet::new(3, 3, vec![0xE0, 0xA0, 0xE0])
 }
 
 fn number<T>(result: Result<T, Refusal>) -> u32 {
@@ -103,8 +115,75 @@ fn a_look_at_a_cut_run() {
     levels.pop();
     let short = Run::from_parts(record, levels.clone());
     assert_eq!(number(short.provisional(2)), 10);
-    let foreign = Run::from_parts([0; 55], levels);
+    let foreign = Run::from_parts([0; RECORD_WORDS], levels);
     assert_eq!(number(foreign.provisional(2)), 1);
+}
+
+#[test]
+fn a_crop_keeps_its_border() {
+    let full = Sheet::new(3, 3, vec![0xE0; 3]);
+    assert_eq!(cropped(&full, &Element::cross(), 2), [MORE_THAN_CAP; 9]);
+    let levels = cropped(&ring(), &Element::cross(), 2);
+    assert_eq!(levels, [2, 1, 2, 1, 0, 1, 2, 1, 2]);
+    let more = MORE_THAN_CAP;
+    assert_eq!(cropped(&row("11011"), &t(), 2), [2, 1, 0, more, more]);
+    assert_eq!(cropped(&row("11011"), &t(), 1), [more, 1, 0, more, more]);
+    // The lower point is met by way of beyond the frame, in two steps.
+    let element = Element::new(3, vec![0, 0, 0, 1, 1, 0, 0, 0, 1]);
+    let column = Sheet::new(1, 2, vec![0x80, 0]);
+    assert_eq!(cropped(&column, &element, 2), [2, 0]);
+    assert_eq!(cropped(&column, &element, 1), [more, 0]);
+}
+
+#[test]
+fn a_crop_has_sheets_looks_and_a_file() {
+    let mut run = Run::start_cropped(&ring(), &Element::cross(), 1).unwrap();
+    // Eroding by 1 leaves the corners; before any row, the look still has what lies beside the centre.
+    assert_eq!(provisional(&run, 1), (vec![0xE0, 0xA0, 0xE0], 0));
+    assert_eq!(number(run.threshold(1)), 13);
+    run.finish().unwrap();
+    assert_eq!(run.threshold(0).unwrap(), ring());
+    assert_eq!(run.threshold(1).unwrap().bytes, [0xA0, 0, 0xA0]);
+    assert_eq!(number(run.threshold(2)), 8);
+    assert_eq!(
+        run.provisional(1),
+        Ok(Look::Final(run.threshold(1).unwrap()))
+    );
+    let text = "P2\n# rows 10 of 10\n3 3\n65535\n65535 1 65535\n1 0 1\n65535 1 65535\n";
+    assert_eq!(run.write_pgm().unwrap(), text.as_bytes());
+}
+
+#[test]
+fn a_file_of_five_digits_has_room() {
+    let wide = Sheet::new(4094, 1, vec![0xFF; 512]);
+    let mut run = Run::start_cropped(&wide, &Element::cross(), 1).unwrap();
+    run.finish().unwrap();
+    // Eleven numbers of five digits to a line of at most 70 characters, each followed by a blank or a line end.
+    let header = "P2\n# rows 6 of 6\n4094 1\n65535\n";
+    assert_eq!(run.write_pgm().unwrap().len(), header.len() + 4094 * 6);
+}
+
+#[test]
+fn an_edge_rule_belongs_to_its_kind() {
+    let run = Run::start_cropped(&row("1"), &t(), 1).unwrap();
+    let (record, levels) = run.into_parts();
+    assert_eq!((record[0], record[3], record[55]), (1, 1, 1));
+    // Kind, cap, edge rule: an erosion has no cap, a dilation background beyond.
+    for (kind, cap, edge_rule, refusal) in [
+        (1, 1, 1, 0),
+        (2, 1, 0, 0),
+        (1, 1, 0, 1),
+        (2, 1, 1, 1),
+        (1, 1, 2, 1),
+        (1, 1, 256, 1),
+        (1, 1, 257, 1),
+        (1, 2048, 1, 1),
+    ] {
+        let mut words = record;
+        (words[0], words[3], words[55]) = (kind, cap, edge_rule);
+        let mut changed = Run::from_parts(words, levels.clone());
+        assert_eq!(number(changed.continue_by(1)), refusal);
+    }
 }
 
 #[test]
@@ -153,6 +232,7 @@ fn no_argument_is_too_wrong() {
         let sheet = Sheet::background(side, side);
         assert_eq!(number(Run::start_erosion(&sheet, &t())), 2);
         assert_eq!(number(Run::start_dilation(&sheet, &t(), u64::MAX)), 2);
+        assert_eq!(number(Run::start_cropped(&sheet, &t(), u64::MAX)), 2);
         assert_eq!(number(sheet.close(&t(), 1)), 2);
         assert_eq!(number(sheet.write_pbm()), 2);
         assert!(!sheet.pixel(0, 0));
@@ -166,7 +246,9 @@ fn no_argument_is_too_wrong() {
     assert_eq!(number(row("1").closing_levels(&t(), 2048)), 8);
     // A margin of 2,047 on both sides leaves room for a frame of at most 2.
     assert_eq!(number(row("111").close(&t(), 2047)), 9);
-    let mut foreign = Run::from_parts([u64::MAX; 55], vec![]);
+    assert_eq!(number(Run::start_cropped(&row("111"), &t(), 2047)), 9);
+    assert_eq!(number(Run::start_cropped(&row("111"), &t(), 2048)), 8);
+    let mut foreign = Run::from_parts([u64::MAX; RECORD_WORDS], vec![]);
     assert_eq!(number(foreign.continue_by(1)), 1);
     assert_eq!(number(foreign.collect()), 1);
     assert_eq!(number(foreign.threshold(0)), 1);

@@ -5,40 +5,42 @@ pub const START_EROSION: usize = 0;
 
 pub const START_DILATION: usize = 1;
 
-pub const CONTINUE_RUN: usize = 2;
+pub const START_CROPPED: usize = 2;
 
-pub const COLLECT: usize = 3;
+pub const CONTINUE_RUN: usize = 3;
 
-pub const THRESHOLD: usize = 4;
+pub const COLLECT: usize = 4;
 
-pub const PROVISIONAL: usize = 5;
+pub const THRESHOLD: usize = 5;
 
-pub const WRITE_PGM: usize = 6;
+pub const PROVISIONAL: usize = 6;
 
-pub const REFLECT: usize = 7;
+pub const WRITE_PGM: usize = 7;
 
-pub const READ_PBM: usize = 8;
+pub const REFLECT: usize = 8;
 
-pub const WRITE_PBM: usize = 9;
+pub const READ_PBM: usize = 9;
 
-pub const OPEN: usize = 10;
+pub const WRITE_PBM: usize = 10;
 
-pub const CLOSE: usize = 11;
+pub const OPEN: usize = 11;
 
-pub const OPENING_LEVELS: usize = 12;
+pub const CLOSE: usize = 12;
 
-pub const CLOSING_LEVELS: usize = 13;
+pub const OPENING_LEVELS: usize = 13;
 
-pub const NO_CALL: usize = 14;
+pub const CLOSING_LEVELS: usize = 14;
+
+pub const NO_CALL: usize = 15;
 
 // How many levels each accepted case lends, and how many bytes or levels of room for the answer.
-const LEVELS: [usize; 14] = [9, 25, 9, 9, 9, 9, 9, 0, 0, 0, 9, 25, 9, 25];
+const LEVELS: [usize; 15] = [9, 25, 25, 9, 9, 9, 9, 9, 0, 0, 0, 9, 25, 9, 25];
 
-const ROOM: [usize; 14] = [0, 0, 0, 9, 3, 3, 41, 9, 1, 10, 3, 3, 9, 9];
+const ROOM: [usize; 15] = [0, 0, 0, 0, 9, 3, 3, 41, 9, 1, 10, 3, 3, 9, 9];
 
 // A case: the call; the frame; how many bytes of sheet are lent, and their value; the element's side, its bytes as decimal digits
-// (9 stands for 255) and how many of them are lent; the size, cap or allowance; the record (0 all zero, 1 begun, 2 with all rows
-// done); how many levels are lent and what they are filled with, and how many more to work with; the room for the answer.
+// (9 stands for 255) and how many of them are lent; the size, cap or allowance; the record, by its number in `records`; how many
+// levels are lent and what they are filled with, and how many more to work with; the room for the answer.
 pub struct Case {
     pub call: usize,
     pub width: usize,
@@ -56,7 +58,7 @@ pub struct Case {
     pub answer: usize,
 }
 
-fn entry(table: [usize; 14], call: usize) -> usize {
+fn entry(table: [usize; 15], call: usize) -> usize {
     if NO_CALL <= call {
         return 0;
     }

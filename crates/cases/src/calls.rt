@@ -44,7 +44,11 @@ fn started(case: Case, sheet: &[u8], cells: &[u8], levels: &mut [u16]) -> u32 {
         return begun.refusal;
     }
     let cap = case.number;
-    let begun = run::starting::start_dilation(width, height, sheet, side, cells, cap, levels);
+    if case.call == asking::START_DILATION {
+        let begun = run::starting::start_dilation(width, height, sheet, side, cells, cap, levels);
+        return begun.refusal;
+    }
+    let begun = run::starting::start_cropped(width, height, sheet, side, cells, cap, levels);
     begun.refusal
 }
 
@@ -96,7 +100,7 @@ pub fn answer(
     out: &mut [u8],
 ) -> u32 {
     let call = case.call;
-    if call <= asking::START_DILATION {
+    if call <= asking::START_CROPPED {
         return started(case, sheet, cells, first);
     }
     if call <= asking::WRITE_PGM {

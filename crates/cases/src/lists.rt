@@ -110,7 +110,7 @@ fn file_of(text: &[u8]) -> [u8; FILE] {
 fn number_for(call: &[u8], words: &[u8], text: &[u8]) -> u32 {
     let number = call_of(
         call,
-        b"start_erosion,start_dilation,continue_run,collect,threshold,provisional,\
+        b"start_erosion,start_dilation,start_cropped,continue_run,collect,threshold,provisional,\
           write_pgm,reflect,read_pbm,write_pbm,open,close,opening_levels,closing_levels",
     );
     let case = asked(asking::accepted(number), words);

@@ -1,11 +1,12 @@
 // Document 01's cases 9 and 10, and a case for each refusal of each public call. The list of cases is read on standard input
 // (the file `stdin`), so a new case is a line there and nothing to prove here; for each the program prints the call, the case and
-// the number answered, 0 where it is accepted. Then case 10, and how many points slices of rows lower.
+// the number answered, 0 where it is accepted. Then case 10, how many points slices of rows lower, and cropped sheets.
 use libc::STDIN_FILENO;
 
 mod asking;
 mod calls;
 mod counts;
+mod crops;
 mod lines;
 mod lists;
 mod padding;
@@ -18,4 +19,5 @@ fn main() {
     lists::answer_all(&input[..length]);
     padding::same_answers();
     counts::say_counts();
+    crops::say_crops();
 }

@@ -40,7 +40,11 @@ fn begun(call: usize, sheet: &[u8], levels: &mut [u16]) -> Record {
         let started = run::starting::start_erosion(9, 3, sheet, 3, &CROSS, levels);
         return started.run;
     }
-    let started = run::starting::start_dilation(9, 3, sheet, 3, &CROSS, 1, levels);
+    if call == asking::START_DILATION {
+        let started = run::starting::start_dilation(9, 3, sheet, 3, &CROSS, 1, levels);
+        return started.run;
+    }
+    let started = run::starting::start_cropped(9, 3, sheet, 3, &CROSS, 1, levels);
     started.run
 }
 
@@ -77,7 +81,7 @@ fn left_by(call: usize, sheet: &[u8], work: usize, room: usize) -> Left
     let first: &mut [u16] = &mut first_room;
     let second: &mut [u16] = &mut second_room;
     let out: &mut [u8] = &mut bytes;
-    if call <= asking::START_DILATION {
+    if call <= asking::START_CROPPED {
         run_through(
             call,
             sheet,
@@ -154,6 +158,7 @@ pub fn same_answers() {
     compare(b"erosion levels", asking::START_EROSION, FRAME, SHEET);
     compare(b"erosion by 1", asking::START_EROSION, FRAME, SHEET);
     compare(b"dilation levels", asking::START_DILATION, CANVAS, SHEET);
+    compare(b"cropped levels", asking::START_CROPPED, CANVAS, SHEET);
     compare(b"write_pbm", asking::WRITE_PBM, FRAME, FILE);
     compare_read();
     compare(b"opening by 1", asking::OPEN, FRAME, SHEET);

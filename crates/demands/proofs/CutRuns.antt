@@ -1,32 +1,36 @@
 -- Where the series ends the run is an unbroken scan, and the finished run is what the rows still due make of it. They never raise a
 -- level and lower none to 0, so a level that an erosion ends with above the size is above it before, and one that a dilation has
 -- from 1 to the size and one ends there too. What the finished levels hold is the right set, by demand 2.
-use Prim.Native.Nat.{ℕ, _+_, _-_, _*_, _≤_, _<_}
+use Prim.Native.Nat.{ℕ, suc, _+_, _-_, _*_, _≤_, _<_}
 use native.Mathlib.Omega.{arith}
 use mathlib.Core.Path.{_≡_, refl, sym, ap, subst, _∙_}
-use mathlib.Core.Bool.{Bool, true, false, cond}
-use mathlib.Core.Logic.{_↔_}
+use mathlib.Core.Bool.{Bool, true, false, cond, _&&_}
+use mathlib.Core.Logic.{_≢_, _↔_}
 use mathlib.Core.List.{List, [], _∷_}
-use lib.Dec.{eqb}
+use lib.Dec.{eqb, leb, ltb}
 use lib.ListN.{length, getD}
-use borrow.Author.Tests.{eq-eqb, ne-eqb, eqb-true, lt-ltb, ltb-true}
+use borrow.Author.Tests.{eq-eqb, ne-eqb, eqb-true, lt-ltb, ltb-true, leb-true, leb-false}
+use Rattle.basics.specs.Limits.{highestCap}
 use Rattle.sheet.specs.Sheets.{rowBytes, pixel}
 use Rattle.sheet.specs.Means.{SheetMeans}
+use Rattle.row.specs.RowRule.{none}
 use Rattle.scan.specs.Scan.{scanRows}
 use Rattle.scan.proofs.ScanLaws.{rows-add, rows-lower, rows-positive}
 use Rattle.run.specs.declared.Record.{Record}
-use Rattle.run.specs.Records.{isErosion, areaOf, due}
+use Rattle.run.specs.Kinds.{eroding, cropping, byKind, erosionKind, backgroundBeyond, sizeLimit, croppedLevel, isHeldAt}
+use Rattle.run.specs.Records.{areaOf, due}
 use Rattle.run.specs.Continuing.{State, withRows}
-use Rattle.run.specs.Pictures.{frameLevel, isHeldAt, thresholded, sizeLimit}
+use Rattle.run.specs.Pictures.{frameLevel, thresholded}
 use Rattle.run.specs.Provisional.{ShowsProvisional}
 use Rattle.run.specs.Series.{Started, Slice, Allowed, IsSeries, atStart, next, after, rowsWorked}
-use Rattle.run.specs.Demand2.{finished}
+use Rattle.run.specs.Demand2.{finished, RightSet}
 use Rattle.run.proofs.LevelLaws.{range-iff}
-use Rattle.run.proofs.Demand2.{thresholded-at, pixel-iff}
+use Rattle.run.proofs.RecordLaws.{sound}
+use Rattle.run.proofs.Started.{is-start}
+use Rattle.run.proofs.Demand2.{thresholded-at, pixel-iff, every-picture}
 use Rattle.run.proofs.Demand3.{cuts-do-not-show, look-given}
-use Rattle.demands.specs.Demand3.{RightSet}
 use Rattle.demands.specs.CutRuns.{Shown, EveryCut, FinalIsOrdinary}
-use Rattle.demands.proofs.Demand3.{thresholded-rows, right-sheet}
+use Rattle.demands.proofs.Demand3.{thresholded-rows}
 
 -- NO CALL RAISES A LEVEL, whatever the run
 call-lowers : (s : State) (call : Slice) → Allowed s call → (place : ℕ) → getD (next s call .2) place 0 ≤ getD (s .2) place 0
@@ -50,18 +54,36 @@ calls-lower s (call ∷ series) p place =
     let rest = calls-lower (next s call) series (p .1) place in
     omega arith
 
--- a level and the one that it is lowered to: what an erosion holds of the lower it holds of the higher, and a dilation, where
--- none is lowered to 0, the other way about
-module _ (r : Record) (n lower level : ℕ) (l : lower ≤ level) where
-  held-before : isErosion r ≡ true → isHeldAt r n lower ≡ true → isHeldAt r n level ≡ true
-  held-before k h =
-      let above = ltb-true n lower (rw k at h) in
-      rw k (lt-ltb n level (omega arith))
+-- a level and the one that it is lowered to: what an erosion of either kind holds of the lower it holds of the higher, and a
+-- dilation, where none is lowered to 0, the other way about
+cropped-rises : (R lower level : ℕ) → R ≤ highestCap → lower ≤ level → croppedLevel R lower ≤ croppedLevel R level
+cropped-rises R lower level small l = go (leb lower (suc R)) (leb level (suc R)) refl refl
+  where
+    go : (a b : Bool) → leb lower (suc R) ≡ a → leb level (suc R) ≡ b → cond a (lower - 1) none ≤ cond b (level - 1) none
+    go true true p q = omega arith
+    go true false p q = let f = leb-true lower (suc R) p in omega arith
+    go false true p q = let f = leb-false lower (suc R) p in let g = leb-true level (suc R) q in absurd (omega arith)
+    go false false p q = omega arith
 
-  held-after : isErosion r ≡ false → (0 < level → 0 < lower) → isHeldAt r n level ≡ true → isHeldAt r n lower ≡ true
-  held-after k positive h =
-      let (some, most) = range-iff n level .1 (rw k at h) in
-      rw k (range-iff n lower .0 (positive some, omega arith))
+module _ (r : Record) (n lower level : ℕ) (l : lower ≤ level) where
+  held-before : r .cap ≤ highestCap → r .kind ≡ erosionKind → isHeldAt r n lower ≡ true → isHeldAt r n level ≡ true
+  held-before small k h = rw (eq-eqb (r .kind) erosionKind k)
+      (go (eqb (r .edge) backgroundBeyond) (rw (eq-eqb (r .kind) erosionKind k) at h))
+    where
+      above : (a b : ℕ) → a ≤ b → ltb n a ≡ true → ltb n b ≡ true
+      above a b m t = let f = ltb-true n a t in lt-ltb n b (omega arith)
+
+      go : (t : Bool)
+          → byKind (cond t eroding cropping) (ltb n lower) (leb 1 lower && leb lower (suc n)) (ltb n (croppedLevel (r .cap) lower)) ≡ true
+          → byKind (cond t eroding cropping) (ltb n level) (leb 1 level && leb level (suc n)) (ltb n (croppedLevel (r .cap) level)) ≡ true
+      go true = above lower level l
+      go false = above _ _ (cropped-rises (r .cap) lower level small l)
+
+  held-after : r .kind ≢ erosionKind → (0 < level → 0 < lower) → isHeldAt r n level ≡ true → isHeldAt r n lower ≡ true
+  held-after m positive h =
+      let e = ne-eqb (r .kind) erosionKind m in
+      let (some, most) = range-iff n level .1 (rw e at h) in
+      rw e (range-iff n lower .0 (positive some, omega arith))
 
 -- so with the pixels of levels and of what more rows make of them
 module _ (r : Record) (levels : List ℕ) (done count n row col : ℕ) (a : row < r .height) (b : col < r .width) where
@@ -77,12 +99,12 @@ module _ (r : Record) (levels : List ℕ) (done count n row col : ℕ) (a : row 
   lower : frameLevel r later row col ≤ frameLevel r levels row col
   lower = rows-lower (areaOf r) done count levels _
 
-  seen-before : isErosion r ≡ true → Seen later → Seen levels
-  seen-before k e =
-      seen-iff levels .1 (held-before r n (frameLevel r later row col) (frameLevel r levels row col) lower k
+  seen-before : r .cap ≤ highestCap → r .kind ≡ erosionKind → Seen later → Seen levels
+  seen-before small k e =
+      seen-iff levels .1 (held-before r n (frameLevel r later row col) (frameLevel r levels row col) lower small k
       (seen-iff later .0 e))
 
-  seen-after : isErosion r ≡ false → Seen levels → Seen later
+  seen-after : r .kind ≢ erosionKind → Seen levels → Seen later
   seen-after k e =
       seen-iff later .1 (held-after r n (frameLevel r later row col) (frameLevel r levels row col) lower k
       (rows-positive (areaOf r) done count levels _) (seen-iff levels .0 e))
@@ -109,16 +131,16 @@ module _ {r : Record} {levels : List ℕ} (started : Started r levels) (n : ℕ)
         let answer = c .accepted z in
         let final = ap (λ t. t .0) answer in
         let same = ap (λ t. t .1) answer ∙ thresholded-rows r n own size in
-        let right = right-sheet started size small in
+        let right = every-picture r levels started .thresholding size small in
         record {
           given = z;
           final = ((λ e. eqb-true n (due r) (sym final ∙ e)), (λ e. final ∙ eq-eqb n (due r) e));
           contains = λ k row col a b h. rw same
-              (seen-before r own (0 + n) (due r - n) size row col a b (eq-eqb (r .kind) 1 k)
+              (seen-before r own (0 + n) (due r - n) size row col a b (sound r (is-start started .taken) .cap-small) k
               (rw finishes (right row col a b .1 h)));
           within = λ k row col a b h. right row col a b .0
               (rw (sym finishes) (seen-after r own (0 + n) (due r - n) size row col a b
-              (ne-eqb (r .kind) 1 (λ e. absurd (omega arith))) (rw same at h)));
+              (λ e. absurd (omega arith)) (rw same at h)));
           whole = λ e. subst (SheetMeans (r .width) (r .height) (RightSet started size))
               (sym (same ∙ ap (λ m. thresholded r (scanRows (areaOf r) 0 m levels) size) e)) right;
         }

@@ -2,29 +2,25 @@
 -- series ends, the run is an unbroken scan, so what is known of those holds of it.
 use Prim.Native.Nat.{ℕ, _≤_, _<_}
 use native.Mathlib.Omega.{arith}
-use mathlib.Core.Path.{_≡_, refl, sym, ap, subst, subst₂, _∙_}
+use mathlib.Core.Path.{_≡_, refl, sym, ap, subst, _∙_}
 use mathlib.Core.Logic.{_≢_}
 use mathlib.Core.List.{List}
 use lib.ListN.{length}
 use borrow.Author.Tests.{eq-eqb, ne-eqb, eqb-true}
 use Rattle.basics.specs.Refusals.{first}
-use Rattle.grid.specs.Sets.{eroded, dilated}
-use Rattle.grid.specs.Levels.{IsErosionLevel, IsDilationLevel}
-use Rattle.element.specs.Elements.{elementSet}
-use Rattle.sheet.specs.Sheets.{foreground}
 use Rattle.sheet.specs.Means.{LevelsMean, SheetMeans}
 use Rattle.scan.specs.Scan.{scanRows}
 use Rattle.run.specs.declared.Record.{Record}
 use Rattle.run.specs.Records.{areaOf, due}
 use Rattle.run.specs.Continuing.{State, withRows}
-use Rattle.run.specs.Pictures.{sizeLimit, collected, thresholded}
-use Rattle.run.specs.Series.{Started, erosion, dilation, unbroken, rowsWorked}
-use Rattle.run.specs.Demand2.{finished}
-use Rattle.run.proofs.Demand2.{erosion-picture, dilation-picture}
+use Rattle.run.specs.Pictures.{collected, thresholded}
+use Rattle.run.specs.Series.{Started, unbroken, rowsWorked}
+use Rattle.run.specs.Demand2.{finished, RightLevel, RightSet}
+use Rattle.run.proofs.Demand2.{every-picture}
 use Rattle.run.proofs.Demand3.{cuts-do-not-show, counts-add-up, released, none-released, unfinished-refused}
 use Rattle.pgm.specs.WritePgm.{picture, pgmRefusals}
 use Rattle.pgm.proofs.Released.{pgm-released, pgm-none-released, pgm-unfinished-refused}
-use Rattle.demands.specs.Demand3.{RightLevel, RightSet, PictureGiven, NoneGiven, RowsWanting, EveryRun}
+use Rattle.demands.specs.Demand3.{PictureGiven, NoneGiven, RowsWanting, EveryRun}
 
 -- rows done do not matter to what is collected and held
 collected-rows : (r : Record) (n : ℕ) (levels : List ℕ) → collected (withRows r n) levels ≡ collected r levels
@@ -35,34 +31,6 @@ pub thresholded-rows : (r : Record) (n : ℕ) (levels : List ℕ) (size : ℕ)
     → thresholded (withRows r n) levels size ≡ thresholded r levels size
 unfolding thresholded
 thresholded-rows r n levels size = refl
-
--- the picture of a finished run is the right one: demand 2, in the record's own numbers
-right-levels : {r : Record} {levels : List ℕ} (started : Started r levels)
-    → LevelsMean (r .width) (r .height) (RightLevel started) (collected r (finished r levels))
-right-levels (erosion width height sheet side bytes lent {r = r} {levels = levels} a) =
-    let q = ap (λ t. t .0) (a .accepted refl) in
-    let IsLevel = IsErosionLevel (foreground width height sheet) (elementSet side bytes) in
-    subst₂ (λ w h. LevelsMean w h IsLevel (collected r (finished r levels))) (sym (ap (λ (t : Record). t .width) q))
-    (sym (ap (λ (t : Record). t .height) q)) (erosion-picture width height sheet side bytes lent r levels a .0)
-right-levels (dilation width height sheet side bytes cap lent {r = r} {levels = levels} a) =
-    let q = ap (λ t. t .0) (a .accepted refl) in
-    let IsLevel = IsDilationLevel cap (foreground width height sheet) (elementSet side bytes) in
-    subst₂ (λ w h. LevelsMean w h IsLevel (collected r (finished r levels))) (sym (ap (λ (t : Record). t .width) q))
-    (sym (ap (λ (t : Record). t .height) q)) (dilation-picture width height sheet side bytes cap lent r levels a .0)
-
-pub right-sheet : {r : Record} {levels : List ℕ} (started : Started r levels) (n : ℕ) → n ≤ sizeLimit r
-    → SheetMeans (r .width) (r .height) (RightSet started n) (thresholded r (finished r levels) n)
-right-sheet (erosion width height sheet side bytes lent {r = r} {levels = levels} a) n l =
-    let q = ap (λ t. t .0) (a .accepted refl) in
-    let A = eroded (foreground width height sheet) (elementSet side bytes) n in
-    subst₂ (λ w h. SheetMeans w h A (thresholded r (finished r levels) n)) (sym (ap (λ (t : Record). t .width) q))
-    (sym (ap (λ (t : Record). t .height) q)) (erosion-picture width height sheet side bytes lent r levels a .1 n)
-right-sheet (dilation width height sheet side bytes cap lent {r = r} {levels = levels} a) n l =
-    let q = ap (λ t. t .0) (a .accepted refl) in
-    let A = dilated (foreground width height sheet) (elementSet side bytes) n in
-    let small : n ≤ cap = subst (λ (t : Record). n ≤ sizeLimit t) q l in
-    subst₂ (λ w h. SheetMeans w h A (thresholded r (finished r levels) n)) (sym (ap (λ (t : Record). t .width) q))
-    (sym (ap (λ (t : Record). t .height) q)) (dilation-picture width height sheet side bytes cap lent r levels a .1 n small)
 
 module _ {r : Record} {levels : List ℕ} (started : Started r levels) where
   write-given : (out : List ℕ)
@@ -77,13 +45,14 @@ module _ {r : Record} {levels : List ℕ} (started : Started r levels) where
         let z = c .refusal ∙ released r levels started 0 (omega arith) .0 out q in (
           z,
           subst (LevelsMean (r .width) (r .height) (RightLevel started))
-              (sym (c .accepted z ∙ collected-rows r (due r) (finished r levels))) (right-levels started),
+              (sym (c .accepted z ∙ collected-rows r (due r) (finished r levels))) (every-picture r levels started .collecting),
         );
     thresholding = λ size l out q number filled c.
         let z = c .refusal ∙ released r levels started size l .1 out q in (
           z,
           subst (SheetMeans (r .width) (r .height) (RightSet started size))
-              (sym (c .accepted z ∙ thresholded-rows r (due r) (finished r levels) size)) (right-sheet started size l),
+              (sym (c .accepted z ∙ thresholded-rows r (due r) (finished r levels) size))
+              (every-picture r levels started .thresholding size l),
         );
     writing = λ out room number written c. c .refusal ∙ write-given out room;
   }

@@ -10,13 +10,13 @@ use lib.ListN.{length, getD}
 use Rattle.sheet.specs.Sheets.{rowBytes}
 use Rattle.sheet.specs.Means.{SheetMeans, SheetContains, SheetWithin}
 use Rattle.run.specs.declared.Record.{Record}
-use Rattle.run.specs.Records.{erosionKind, dilationKind, due}
+use Rattle.run.specs.Kinds.{erosionKind, dilationKind, sizeLimit}
+use Rattle.run.specs.Records.{due}
 use Rattle.run.specs.Continuing.{isDone}
-use Rattle.run.specs.Pictures.{sizeLimit, Thresholds}
+use Rattle.run.specs.Pictures.{Thresholds}
 use Rattle.run.specs.Provisional.{ShowsProvisional}
 use Rattle.run.specs.Series.{Started, Slice, IsSeries, atStart, after, rowsWorked}
-use Rattle.run.specs.Demand2.{finished}
-use Rattle.demands.specs.Demand3.{RightSet}
+use Rattle.run.specs.Demand2.{finished, RightSet}
 
 -- What a look at a size gives, n of the rows due being done: it is not refused, and final is answered exactly when all are done.
 -- At every point of the frame, an erosion's sheet contains the set eroded by the size, a dilation's lies within the set dilated by

@@ -8,28 +8,16 @@ use mathlib.Core.Bool.{true, false}
 use mathlib.Core.List.{List}
 use lib.ListN.{length}
 use Rattle.basics.specs.Bounds.{anyAbove}
-use Rattle.grid.specs.Points.{Point}
-use Rattle.grid.specs.Sets.{PointSet, eroded, dilated}
-use Rattle.grid.specs.Levels.{IsErosionLevel, IsDilationLevel}
-use Rattle.element.specs.Elements.{elementSet}
-use Rattle.sheet.specs.Sheets.{rowBytes, foreground}
+use Rattle.sheet.specs.Sheets.{rowBytes}
 use Rattle.sheet.specs.Means.{LevelsMean, SheetMeans}
 use Rattle.run.specs.declared.Record.{Record}
+use Rattle.run.specs.Kinds.{sizeLimit}
 use Rattle.run.specs.Records.{due}
-use Rattle.run.specs.Pictures.{sizeLimit, collected, Collects, Thresholds}
+use Rattle.run.specs.Pictures.{collected, Collects, Thresholds}
 use Rattle.run.specs.Continuing.{State, Continues}
-use Rattle.run.specs.Series.{Started, erosion, dilation, Slice, IsSeries, atStart, after, counted, unbroken, rowsWorked}
+use Rattle.run.specs.Series.{Started, Slice, IsSeries, atStart, after, counted, unbroken, rowsWorked}
+use Rattle.run.specs.Demand2.{RightLevel, RightSet}
 use Rattle.pgm.specs.WritePgm.{maximum, picture, WritesPgm}
-
--- the picture that a started run is to give, by demand 2: the level of each point, and the set held at a size
-abbrev pub RightLevel : {r : Record} {levels : List ℕ} → Started r levels → Point → ℕ → Type 0
-RightLevel (erosion width height sheet side bytes lent _) = IsErosionLevel (foreground width height sheet) (elementSet side bytes)
-RightLevel (dilation width height sheet side bytes cap lent _) =
-    IsDilationLevel cap (foreground width height sheet) (elementSet side bytes)
-
-abbrev pub RightSet : {r : Record} {levels : List ℕ} → Started r levels → ℕ → PointSet
-RightSet (erosion width height sheet side bytes lent _) n = eroded (foreground width height sheet) (elementSet side bytes) n
-RightSet (dilation width height sheet side bytes cap lent _) n = dilated (foreground width height sheet) (elementSet side bytes) n
 
 -- The picture is given, and it is the right one: collected, thresholded at every size in its range, and written, with outputs of
 -- the right lengths and room for the text.

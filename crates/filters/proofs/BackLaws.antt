@@ -7,6 +7,7 @@ use mathlib.Core.Path.{_≡_, refl, sym, ap, ap₂, _∙_}
 use mathlib.Core.Bool.{Bool, true, false, cond, _||_, false≢true}
 use mathlib.Core.Logic.{_↔_}
 use mathlib.Core.List.{List}
+use lib.Dec.{eqb}
 use lib.ListN.{length, getD}
 use borrow.Author.Tests.{le-ltb}
 use Rattle.basics.proofs.Arithmetic.{entry-below}
@@ -21,10 +22,10 @@ use Rattle.sheet.specs.Sheets.{isSideOut}
 use Rattle.scan.specs.Look.{look}
 use Rattle.scan.proofs.LookLaws.{spot, look-inside}
 use Rattle.run.specs.declared.Record.{Record}
-use Rattle.run.specs.Records.{isErosion, areaWidth, areaHeight, areaOf, elementForeign, capForeign, foreign}
-use Rattle.run.specs.Pictures.{isHeldAt}
-use Rattle.run.proofs.RecordLaws.{Sound, sound}
-use Rattle.filters.specs.Back.{back, onOf, offOf, backStart}
+use Rattle.run.specs.Kinds.{erosionKind, dilationKind, backgroundBeyond, onOf, offOf, isHeldAt}
+use Rattle.run.specs.Records.{areaWidth, areaHeight, areaOf, elementForeign, kindForeign, capForeign, foreign}
+use Rattle.run.proofs.RecordLaws.{sound}
+use Rattle.filters.specs.Back.{back, backStart}
 
 module _ (r : Record) where
   pub back-width : areaWidth (back r) ≡ areaWidth r
@@ -34,31 +35,44 @@ module _ (r : Record) where
   back-height = let z = zero-mul (reach (r .side)) in omega arith
 
 -- the way back is a run that a start could give
+back-kind : (r : Record) → kindForeign (back r) ≡ false
+unfolding kindForeign
+back-kind r = go (eqb (r .kind) erosionKind)
+  where
+    go : (t : Bool) → kindForeign (record {
+      kind = cond t dilationKind erosionKind;
+      width = areaWidth r;
+      height = areaHeight r;
+      cap = 0;
+      side = r .side;
+      rows = 0;
+      cells = r .cells;
+      edge = backgroundBeyond;
+    }) ≡ false
+    go true = refl
+    go false = refl
+
 pub back-taken : (r : Record) → foreign r ≡ false → foreign (back r) ≡ false
 unfolding foreign capForeign
 back-taken r e =
     let s = sound r e in
     let w = s .wide in
     let h = s .high in
-    let f = neither (isSideOut (r .width) || isSideOut (r .height) || elementForeign (r .side) (r .cells)) (capForeign r) e in
-    let g = neither (isSideOut (r .width) || isSideOut (r .height)) (elementForeign (r .side) (r .cells)) (f .0) in
+    let f = neither (isSideOut (r .width) || isSideOut (r .height) || elementForeign (r .side) (r .cells) || kindForeign r)
+    (capForeign r) e in
+    let g = neither (isSideOut (r .width) || isSideOut (r .height) || elementForeign (r .side) (r .cells)) (kindForeign r) (f .0) in
+    let i = neither (isSideOut (r .width) || isSideOut (r .height)) (elementForeign (r .side) (r .cells)) (g .0) in
+    let z = zero-mul (reach (r .side)) in
+    let a = s .area-wide in
+    let b = s .area-high in
     rw (
       side-fits (areaWidth r) (omega arith) (s .area-wide),
       side-fits (areaHeight r) (omega arith) (s .area-high),
-      g .1,
-    ) (cap-taken (isErosion r) refl s)
-  where
-    cap-taken : (t : Bool) → isErosion r ≡ t → Sound r → capForeign (back r) ≡ false
-    cap-taken true e s =
-        let z = zero-mul (reach (r .side)) in
-        let a = s .area-wide in
-        let b = s .area-high in
-        rw (
-          e,
-          le-ltb longestSide (areaWidth (back r)) (omega arith),
-          le-ltb longestSide (areaHeight (back r)) (omega arith),
-        )
-    cap-taken false e s = rw e
+      i .1,
+      back-kind r,
+      le-ltb longestSide (areaWidth (back r)) (omega arith),
+      le-ltb longestSide (areaHeight (back r)) (omega arith),
+    )
 
 -- the start of the way back, where the first run holds the points of S at a size
 module _ (r : Record) (first : List ℕ) (n : ℕ) (S : PointSet) (size : length first ≡ areaHeight r * areaWidth r)

@@ -1,5 +1,5 @@
 -- The steps of the way back, as the code takes them, each in the terms of its definition.
-use Prim.Native.Nat.{ℕ, _+_, _-_, _*_, _≤_, min}
+use Prim.Native.Nat.{ℕ, _-_, _*_, _≤_, min}
 use native.Mathlib.Nat.{zero-add}
 use native.Mathlib.Omega.{arith}
 use mathlib.Core.Path.{_≡_, refl, sym, ap, ap₂, _∙_, fun-ext}
@@ -14,20 +14,20 @@ use Rattle.basics.specs.Refusals.{first}
 use Rattle.basics.specs.Tables.{table}
 use Rattle.basics.proofs.TableLaws.{length-table, table-same}
 use Rattle.sheet.specs.Sheets.{packed}
-use Rattle.row.specs.RowRule.{none}
 use Rattle.scan.specs.Scan.{scanRows}
 use Rattle.scan.proofs.ScanLaws.{rows-length}
 use Rattle.run.specs.declared.Record.{Record}
-use Rattle.run.specs.Records.{isErosion, margin, areaWidth, areaHeight, areaOf, due, foreign, recordBad}
+use Rattle.run.specs.Kinds.{onOf, offOf, isHeldAt}
+use Rattle.run.specs.Records.{margin, areaWidth, areaHeight, areaOf, due, foreign, recordBad}
 use Rattle.run.specs.Continuing.{continueRefusals, Continues}
-use Rattle.run.specs.Patches.{Patch, Canvas, levelIn, heldBetween}
-use Rattle.run.specs.Pictures.{frameLevel, isHeldAt}
+use Rattle.run.specs.Patches.{Patch, Canvas, levelIn, heldBetween, lowOf, highOf}
+use Rattle.run.specs.Pictures.{frameLevel}
 use Rattle.run.specs.Demand2.{finished}
 use Rattle.run.proofs.RecordLaws.{sound}
 use Rattle.run.proofs.ContinueLaws.{continue-accept}
 use Rattle.run.proofs.PictureAnswers.{held-level}
 use Rattle.filters.specs.declared.back.HeldPart.{HeldPart}
-use Rattle.filters.specs.Back.{back, onOf, offOf, backStart, wayBack, keptSheet, IsHeldPart, Ready, chosen}
+use Rattle.filters.specs.Back.{back, backStart, wayBack, keptSheet, IsHeldPart, Ready, chosen}
 use Rattle.filters.proofs.BackLaws.{back-width, back-height, back-taken}
 
 -- one continue by the most rows finishes a run
@@ -51,9 +51,9 @@ module _ (r : Record) (taken : foreign r ≡ false) (fresh : r .rows ≡ 0) (lev
       ap (λ t. t .0 .2) q ∙ ap₂ (λ d n. scanRows (areaOf r) d n levels) fresh w
 
 -- the record of the way back
-pub back-record : (r : Record) (kind width height : ℕ) (cells : List ℕ) → kind ≡ cond (isErosion r) 2 1 → width ≡ areaWidth r
+pub back-record : (r : Record) (kind width height : ℕ) (cells : List ℕ) → kind ≡ cond (eqb (r .kind) 1) 2 1 → width ≡ areaWidth r
     → height ≡ areaHeight r → cells ≡ r .cells
-    → record { kind = kind; width = width; height = height; cap = 0; side = r .side; rows = 0; cells = cells } ≡ back r
+    → record { kind = kind; width = width; height = height; cap = 0; side = r .side; rows = 0; cells = cells; edge = 0 } ≡ back r
 back-record r kind width height cells p q s t = rw (p, q, s, t)
 
 module _ (r : Record) (first : List ℕ) (n : ℕ) where
@@ -80,18 +80,17 @@ chosen-held low high level held e on off = rw e (go held)
     go false = refl
 
 -- marking gives the start of the way back
-pub start-is : (r : Record) → foreign r ≡ false → (n : ℕ) → n ≤ largestSize → {kind low high on off : ℕ}
-    → kind ≡ cond (isErosion r) 2 1 → low ≡ cond (isErosion r) n 0 → high ≡ cond (isErosion r) none (n + 1)
-    → on ≡ cond (eqb kind 1) none 1 → off ≡ cond (eqb kind 1) 0 none → (first : List ℕ) {marked : List ℕ}
+pub start-is : (r other : Record) → foreign r ≡ false → other ≡ back r → (n : ℕ) → n ≤ largestSize → {low high on off : ℕ}
+    → low ≡ lowOf r n → high ≡ highOf r n → on ≡ onOf other → off ≡ offOf other → (first : List ℕ) {marked : List ℕ}
     → marked ≡ table (length first) (λ k. chosen low high on off (getD first k 0)) → marked ≡ backStart r first n
 unfolding backStart
-start-is r taken n small {kind} {low} {high} {on} {off} is-kind is-low is-high is-on is-off first e =
-    let p : on ≡ onOf (back r) = is-on ∙ ap (λ k. cond (eqb k 1) none 1) is-kind in
-    let q : off ≡ offOf (back r) = is-off ∙ ap (λ k. cond (eqb k 1) 0 none) is-kind in
+start-is r other taken is n small {low} {high} {on} {off} is-low is-high is-on is-off first e =
+    let p : on ≡ onOf (back r) = is-on ∙ ap onOf is in
+    let q : off ≡ offOf (back r) = is-off ∙ ap offOf is in
     e ∙ table-same (λ k. chosen low high on off (getD first k 0))
     (λ k. cond (isHeldAt r n (getD first k 0)) (onOf (back r)) (offOf (back r))) (length first)
     (λ k _. chosen-held low high (getD first k 0) (isHeldAt r n (getD first k 0))
-    (held-level (sound r taken) n small low high is-low is-high (getD first k 0)) on off
+    (ap₂ (λ x y. heldBetween x y (getD first k 0)) is-low is-high ∙ held-level (sound r taken) n small (getD first k 0)) on off
     ∙ ap₂ (λ x y. cond (isHeldAt r n (getD first k 0)) x y) p q)
 
 -- and it may be finished
@@ -110,12 +109,13 @@ part-canvas {r} taken size p =
     rw (p .margin-is) (record { wide = sound r taken .area-wide; high = sound r taken .area-high; room = size })
 
 pub held-part-is : (r other : Record) → foreign r ≡ false → other ≡ back r → (n : ℕ) → n ≤ largestSize → {m low high : ℕ}
-    → m ≡ margin r → low ≡ cond (isErosion other) n 0 → high ≡ cond (isErosion other) none (n + 1)
+    → m ≡ margin r → low ≡ lowOf other n → high ≡ highOf other n
     → IsHeldPart r n (record { margin = m; low = low; high = high })
 held-part-is r other taken is n small {m} {low} {high} e p q = record {
   margin-is = e;
-  held = held-level (sound (back r) (back-taken r taken)) n small low high (p ∙ ap (λ x. cond (isErosion x) n 0) is)
-      (q ∙ ap (λ x. cond (isErosion x) none (n + 1)) is);
+  held = λ level.
+      ap₂ (λ x y. heldBetween x y level) (p ∙ ap (λ x. lowOf x n) is) (q ∙ ap (λ x. highOf x n) is)
+      ∙ held-level (sound (back r) (back-taken r taken)) n small level;
 }
 
 -- packing it gives the sheet kept

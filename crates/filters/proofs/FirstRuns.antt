@@ -1,21 +1,17 @@
 -- The first run of a plan: an accepted plan starts it, it is a run that a start gives, and the way back from it holds the set
 -- opened or closed.
--- An opening's start is written with the margin of a cap of 0, which is 0, so that both kinds are read alike.
 use Prim.Native.Nat.{ℕ, _*_}
-use native.Mathlib.Nat.{zero-mul}
-use mathlib.Core.Path.{_≡_, refl, sym, ap, ap₂, _∙_, subst}
+use mathlib.Core.Path.{_≡_, refl, sym, ap, ap₂, _∙_}
 use mathlib.Core.Bool.{Bool, true, false, cond, false≢true}
 use mathlib.Core.List.{List}
 use lib.ListN.{length}
 use Rattle.basics.specs.Limits.{largestSize}
 use Rattle.basics.specs.Refusals.{first}
 use Rattle.basics.proofs.RefusalLaws.{accepts}
-use Rattle.grid.specs.Figures.{reach}
-use Rattle.row.specs.RowRule.{none}
 use Rattle.scan.proofs.ScanLaws.{rows-length}
 use Rattle.run.specs.declared.Record.{Record}
-use Rattle.run.specs.Records.{marginOf, areaWidth, areaHeight, areaOf, due, foreign}
-use Rattle.run.specs.Starting.{startLevels, erosionRefusals, dilationRefusals, StartsErosion, StartsDilation}
+use Rattle.run.specs.Records.{areaWidth, areaHeight, areaOf, due, foreign}
+use Rattle.run.specs.Starting.{erosionRefusals, dilationRefusals, StartsErosion, StartsDilation}
 use Rattle.run.specs.Series.{erosion, dilation}
 use Rattle.run.specs.Demand2.{finished}
 use Rattle.run.proofs.Started.{IsStart, is-start}
@@ -37,7 +33,7 @@ module _ (input : Input) (sheet bytes lent : List ℕ) where
   Accepts plan = first (startRefusals input sheet bytes plan (length lent)) ≡ 0
 
   abbrev Begun : Plan → Record → List ℕ → Type 0
-  Begun plan run levels = (run ≡ firstRecord input bytes plan) × (levels ≡ firstStart input sheet plan)
+  Begun plan run levels = (run ≡ firstRecord input bytes plan) × (levels ≡ firstStart input sheet bytes plan)
 
   -- each start accepts what its plan has accepted
   dilation-accepts : (size : ℕ) (packed : Bool) → Accepts (planOf true size packed)
@@ -55,10 +51,6 @@ module _ (input : Input) (sheet bytes lent : List ℕ) where
       let t = start-taken input sheet bytes (planOf false size packed) (length lent) z in
       sym (erosion-fits (input .width) (input .height) sheet (input .side) bytes lent (t .common)
       (t .work-size ∙ ap₂ (λ h w. h * w) (no-margin (input .side) (input .height)) (no-margin (input .side) (input .width))))
-
-  frame-start : {levels : List ℕ} → levels ≡ startLevels (input .width) (input .height) 0 sheet none 0
-      → levels ≡ startLevels (input .width) (input .height) (marginOf 0 (input .side)) sheet none 0
-  frame-start e = e ∙ ap (λ m. startLevels (input .width) (input .height) m sheet none 0) (sym (zero-mul (reach (input .side))))
 
   module _ (plan : Plan) (z : Accepts plan) {number : ℕ} {run : Record} {levels : List ℕ} where
     pub dilation-begun : plan .closing ≡ true
@@ -87,21 +79,20 @@ module _ (input : Input) (sheet bytes lent : List ℕ) where
         go true e z a = absurd (false≢true (sym e))
         go false e z a =
             let q = a .accepted (a .refusal ∙ erosion-accepts (plan .size) (plan .packed) z) in
-            (ap (λ t. t .0) q, frame-start (ap (λ t. t .1) q))
+            (ap (λ t. t .0) q, ap (λ t. t .1) q)
 
   -- it is a run that a start gives
-  pub first-start : (plan : Plan) → Accepts plan → IsStart (firstRecord input bytes plan) (firstStart input sheet plan)
+  pub first-start : (plan : Plan) → Accepts plan → IsStart (firstRecord input bytes plan) (firstStart input sheet bytes plan)
   first-start plan = go (plan .closing) (plan .size) (plan .packed)
     where
       go : (closing : Bool) (size : ℕ) (packed : Bool) → Accepts (planOf closing size packed)
-          → IsStart (firstRecord input bytes (planOf closing size packed)) (firstStart input sheet (planOf closing size packed))
+          → IsStart (firstRecord input bytes (planOf closing size packed)) (firstStart input sheet bytes (planOf closing size packed))
       go true size packed z =
           is-start (dilation (input .width) (input .height) sheet (input .side) bytes
           (capOf (planOf true size packed)) lent (accepts _ (dilation-accepts size packed z) refl))
       go false size packed z =
-          subst (IsStart _) (frame-start refl)
-          (is-start (erosion (input .width) (input .height) sheet (input .side) bytes lent
-          (accepts _ (erosion-accepts size packed z) refl)))
+          is-start (erosion (input .width) (input .height) sheet (input .side) bytes lent
+          (accepts _ (erosion-accepts size packed z) refl))
 
   module _ (plan : Plan) (z : Accepts plan) where
     abbrev r : Record
@@ -120,7 +111,7 @@ module _ (input : Input) (sheet bytes lent : List ℕ) where
     first-finished (p, q) h = (p, h ∙ ap₂ finished p q)
 
     pub first-size : length levels ≡ areaHeight r * areaWidth r
-    first-size = let s = first-start plan z in rows-length (areaOf r) 0 (due r) (firstStart input sheet plan) ∙ s .size
+    first-size = let s = first-start plan z in rows-length (areaOf r) 0 (due r) (firstStart input sheet bytes plan) ∙ s .size
 
     pub first-ready : {run : Record} {given second : List ℕ} → (run ≡ r) × (given ≡ levels)
         → length second ≡ areaHeight r * areaWidth r → Ready run given second

@@ -17,7 +17,8 @@ use Rattle.grid.specs.Sets.{PointSet}
 use Rattle.grid.specs.Levels.{IsLast, IsFirst}
 use Rattle.sheet.specs.Means.{LevelsMean}
 use Rattle.run.specs.declared.Record.{Record}
-use Rattle.run.specs.Pictures.{frameLevel, isHeldAt}
+use Rattle.run.specs.Kinds.{isHeldAt}
+use Rattle.run.specs.Pictures.{frameLevel}
 use Rattle.filters.specs.Filters.{AreLevels}
 use Rattle.filters.specs.Back.{back, wayBack, stored, sizeAt, storedBy}
 use Rattle.filters.proofs.WayBack.{HoldsBack}

@@ -12,7 +12,8 @@ use Rattle.basics.proofs.RefusalLaws.{accepts}
 use Rattle.grid.specs.Sets.{PointSet}
 use Rattle.sheet.specs.Sheets.{rowBytes}
 use Rattle.run.specs.declared.Record.{Record}
-use Rattle.run.specs.Pictures.{frameLevel, isHeldAt}
+use Rattle.run.specs.Kinds.{isHeldAt}
+use Rattle.run.specs.Pictures.{frameLevel}
 use Rattle.filters.specs.declared.Input.{Input}
 use Rattle.filters.specs.declared.judging.Plan.{Plan}
 use Rattle.filters.specs.Filters.{Buffers, Cleared, IsSheet, foregroundOf, elementOf}

@@ -21,7 +21,7 @@ use Rattle.basics.proofs.TableLaws.{length-raster, getD-raster}
 use Rattle.grid.specs.Points.{Point, at}
 use Rattle.grid.specs.Sets.{PointSet}
 use Rattle.grid.specs.Starred.{drawn, Question, erosionLevels, openingLevels, dilationLevels, closingLevels, erodedBy, openedBy}
-use Rattle.grid.specs.Starred.{IsPixel, IsAnswer, Case, shapeOf, AllHold, starredCases as cases, figureOf}
+use Rattle.grid.specs.Starred.{croppedLevels, IsPixel, IsAnswer, Case, shapeOf, AllHold, starredCases as cases, figureOf}
 use Rattle.grid.proofs.LevelLaws.{last-unique, first-unique}
 use Rattle.grid.proofs.SameSets.{answer-same}
 use Rattle.grid.proofs.Searches.{Yes, by-test, all-below, both-dec}
@@ -80,6 +80,7 @@ module _ (c : Case) where
   NotRefused erosionLevels = Unit {0}
   NotRefused (dilationLevels R) = Unit {0}
   NotRefused (erodedBy n) = Unit {0}
+  NotRefused (croppedLevels width height R) = Unit {0}
 
   binary-dec : Dec Binary
   unfolding Binary
@@ -94,6 +95,7 @@ module _ (c : Case) where
   taken-dec erosionLevels = yes tt
   taken-dec (dilationLevels R) = yes tt
   taken-dec (erodedBy n) = yes tt
+  taken-dec (croppedLevels width height R) = yes tt
 
 AllTaken : List Case → Type 0
 AllTaken [] = Unit {0}
@@ -162,6 +164,7 @@ module _ (c : Case) (binary : Binary c) where
   given erosionLevels t h = tt
   given (dilationLevels R) t h = tt
   given (erodedBy n) t h = tt
+  given (croppedLevels width height R) t h = tt
 
 -- the whole table
 filters-give : (rest : List Case) → AllTaken rest → AllHold rest → FiltersGive rest

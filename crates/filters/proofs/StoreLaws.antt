@@ -13,7 +13,8 @@ use Rattle.basics.proofs.TableLaws.{length-raster}
 use Rattle.run.specs.declared.Record.{Record}
 use Rattle.run.specs.Records.{margin, canvasSide}
 use Rattle.run.specs.Patches.{Patch, levelIn}
-use Rattle.run.specs.Pictures.{frameLevel, isHeldAt}
+use Rattle.run.specs.Kinds.{isHeldAt}
+use Rattle.run.specs.Pictures.{frameLevel}
 use Rattle.run.proofs.PatchLaws.{patch-none, patch-turn, patch-all, patch-as, Rows, rows-turn}
 use Rattle.filters.specs.declared.back.HeldPart.{HeldPart}
 use Rattle.filters.specs.declared.judging.Plan.{Plan}

@@ -32,13 +32,14 @@ use Rattle.scan.proofs.LookLaws.{spot, look-inside, look-beyond}
 use Rattle.scan.proofs.Erosion.{erosion-scan, erosion-small}
 use Rattle.scan.proofs.Dilation.{dilation-scan}
 use Rattle.run.specs.declared.Record.{Record}
+use Rattle.run.specs.Kinds.{eroding, dilating, isHeldAt}
 use Rattle.run.specs.Records.{margin, areaWidth, areaHeight, areaOf, due, foreign}
 use Rattle.run.specs.Starting.{startRecord, startLevels}
-use Rattle.run.specs.Pictures.{frameLevel, isHeldAt}
+use Rattle.run.specs.Pictures.{frameLevel}
 use Rattle.run.specs.Demand2.{finished}
 use Rattle.run.proofs.LevelLaws.{range-iff}
 use Rattle.run.proofs.RecordLaws.{sound}
-use Rattle.run.proofs.ScanCells.{partners-erosion, partners-dilation}
+use Rattle.run.proofs.ScanCells.{partners-given, partners-turned}
 use Rattle.run.proofs.Started.{length-start}
 use Rattle.run.proofs.Demand2.{cells-mean, erosion-start, dilation-start}
 use Rattle.filters.specs.Back.{back, backStart, wayBack}
@@ -65,16 +66,16 @@ module _ (width height : ℕ) (sheet : List ℕ) (side : ℕ) (bytes : List ℕ)
   abbrev K : PointSet
   K = elementSet side bytes
 
-  module _ (e : foreign (startRecord 1 width height 0 side bytes) ≡ false) where
+  module _ (e : foreign (startRecord eroding width height 0 side bytes) ≡ false) where
     abbrev r : Record
-    r = startRecord 1 width height 0 side bytes
+    r = startRecord eroding width height 0 side bytes
 
     abbrev first : List ℕ
-    first = finished r (startLevels width height (margin r) sheet none 0)
+    first = finished r (startLevels r sheet)
 
     first-size : length first ≡ areaHeight r * areaWidth r
-    first-size = rows-length (areaOf r) 0 (due r) (startLevels width height (margin r) sheet none 0)
-        ∙ length-start width height (margin r) sheet none 0
+    first-size = rows-length (areaOf r) 0 (due r) (startLevels r sheet)
+        ∙ length-start width height (margin r) sheet none 0 0
 
     eroded-held : (n : ℕ) (x : Point) → eroded A K n x ↔ (ltb n (look (areaOf r) first x) ≡ true)
     eroded-held n x =
@@ -85,7 +86,7 @@ module _ (width height : ℕ) (sheet : List ℕ) (side : ℕ) (bytes : List ℕ)
 
     opening-start : (n : ℕ) → n ≤ largestSize → OpeningStart (areaOf (back r)) A K n (backStart r first n)
     opening-start n l =
-        let p = partners-dilation (back r) (sound (back r) (back-taken r e)) refl in
+        let p = partners-turned (back r) (sound (back r) (back-taken r e)) refl in
         let k = cells-mean side bytes given in
         record {
           none-beyond = refl;
@@ -149,16 +150,16 @@ module _ (width height : ℕ) (sheet : List ℕ) (side : ℕ) (bytes : List ℕ)
             omega arith
         go (no out) = let v = look-beyond (areaOf r) first a out in let u = l in absurd (omega arith)
 
-  module _ (R : ℕ) (e : foreign (startRecord 2 width height R side bytes) ≡ false) where
+  module _ (R : ℕ) (e : foreign (startRecord dilating width height R side bytes) ≡ false) where
     abbrev r₂ : Record
-    r₂ = startRecord 2 width height R side bytes
+    r₂ = startRecord dilating width height R side bytes
 
     abbrev first₂ : List ℕ
-    first₂ = finished r₂ (startLevels width height (margin r₂) sheet 1 none)
+    first₂ = finished r₂ (startLevels r₂ sheet)
 
     first-size₂ : length first₂ ≡ areaHeight r₂ * areaWidth r₂
-    first-size₂ = rows-length (areaOf r₂) 0 (due r₂) (startLevels width height (margin r₂) sheet 1 none)
-        ∙ length-start width height (margin r₂) sheet 1 none
+    first-size₂ = rows-length (areaOf r₂) 0 (due r₂) (startLevels r₂ sheet)
+        ∙ length-start width height (margin r₂) sheet 1 none none
 
     -- the dilated set as it lies on the canvas
     abbrev D : ℕ → PointSet
@@ -167,7 +168,7 @@ module _ (width height : ℕ) (sheet : List ℕ) (side : ℕ) (bytes : List ℕ)
     in-range : (n : ℕ) → n ≤ R → (x : Point) → D n x ↔ ((0 < look (areaOf r₂) first₂ x) × (look (areaOf r₂) first₂ x ≤ suc n))
     in-range n l x =
         dilated-held A K _ R n (look (areaOf r₂) first₂ x) (accepted-origin side bytes given)
-        (dilation-scan (dilation-start width height sheet side bytes R given (sound r₂ e)) x) l
+        (dilation-scan (dilation-start width height sheet side bytes given R (sound r₂ e)) x) l
 
     is-held : (n : ℕ) → n ≤ R → (x : Point)
         → D n x ↔ (leb 1 (look (areaOf r₂) first₂ x) && leb (look (areaOf r₂) first₂ x) (suc n) ≡ true)
@@ -194,7 +195,7 @@ module _ (width height : ℕ) (sheet : List ℕ) (side : ℕ) (bytes : List ℕ)
         let s = sound (back r₂) (back-taken r₂ e) in
         let w = s .area-wide in
         let h = s .area-high in
-        let p = partners-erosion (back r₂) s refl in
+        let p = partners-given (back r₂) s refl in
         let k = cells-mean side bytes given in
         let another = accepted-other side bytes given in
         record {

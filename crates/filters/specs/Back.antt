@@ -8,32 +8,26 @@ use lib.Dec.{eqb}
 use lib.ListN.{length, getD}
 use Rattle.basics.specs.Tables.{table, raster}
 use Rattle.sheet.specs.Sheets.{packed}
-use Rattle.row.specs.RowRule.{none}
 use Rattle.run.specs.declared.Record.{Record}
-use Rattle.run.specs.Records.{isErosion, margin, areaWidth, areaHeight, foreign, erosionKind, dilationKind}
+use Rattle.run.specs.Kinds.{erosionKind, dilationKind, backgroundBeyond, onOf, offOf, isHeldAt}
+use Rattle.run.specs.Records.{margin, areaWidth, areaHeight, foreign}
 use Rattle.run.specs.Patches.{heldBetween}
-use Rattle.run.specs.Pictures.{frameLevel, isHeldAt}
+use Rattle.run.specs.Pictures.{frameLevel}
 use Rattle.run.specs.Demand2.{finished}
 use Rattle.filters.specs.declared.back.HeldPart.{HeldPart}
 
 -- the run of the other kind; its frame is the whole area, so it has no margin of its own
 abbrev pub back : Record → Record
 back r = record {
-  kind = cond (isErosion r) dilationKind erosionKind;
+  kind = cond (eqb (r .kind) erosionKind) dilationKind erosionKind;
   width = areaWidth r;
   height = areaHeight r;
   cap = 0;
   side = r .side;
   rows = 0;
   cells = r .cells;
+  edge = backgroundBeyond;
 }
-
--- what a run of its kind starts with, on its set and off it
-abbrev pub onOf : Record → ℕ
-onOf r = cond (isErosion r) none 1
-
-abbrev pub offOf : Record → ℕ
-offOf r = cond (isErosion r) 0 none
 
 -- it starts with the points that the first run holds at a size
 unfoldable pub backStart : Record → List ℕ → ℕ → List ℕ

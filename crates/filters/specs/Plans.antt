@@ -11,9 +11,8 @@ use Rattle.grid.specs.Points.{Point}
 use Rattle.grid.specs.Sets.{PointSet, opened, closed}
 use Rattle.grid.specs.Levels.{IsOpeningLevel, IsClosingLevel}
 use Rattle.sheet.specs.Sheets.{rowBytes}
-use Rattle.row.specs.RowRule.{none}
 use Rattle.run.specs.declared.Record.{Record}
-use Rattle.run.specs.Records.{marginOf, erosionKind, dilationKind}
+use Rattle.run.specs.Kinds.{eroding, dilating}
 use Rattle.run.specs.Starting.{startRecord, startLevels, canvasRefusals}
 use Rattle.run.specs.Demand2.{finished}
 use Rattle.filters.specs.declared.Input.{Input}
@@ -51,15 +50,13 @@ lengthsOf lent = record { first = length (lent .first); second = length (lent .s
 -- the first run: an erosion for an opening, a dilation for a closing; its record, how it starts, and its levels in the end
 abbrev pub firstRecord : Input → List ℕ → Plan → Record
 firstRecord input bytes plan =
-    startRecord (cond (plan .closing) dilationKind erosionKind) (input .width) (input .height) (capOf plan) (input .side) bytes
+    startRecord (cond (plan .closing) dilating eroding) (input .width) (input .height) (capOf plan) (input .side) bytes
 
-abbrev pub firstStart : Input → List ℕ → Plan → List ℕ
-firstStart input sheet plan =
-    startLevels (input .width) (input .height) (marginOf (capOf plan) (input .side)) sheet
-    (cond (plan .closing) 1 none) (cond (plan .closing) none 0)
+abbrev pub firstStart : Input → List ℕ → List ℕ → Plan → List ℕ
+firstStart input sheet bytes plan = startLevels (firstRecord input bytes plan) sheet
 
 abbrev pub firstLevels : Input → List ℕ → List ℕ → Plan → List ℕ
-firstLevels input sheet bytes plan = finished (firstRecord input bytes plan) (firstStart input sheet plan)
+firstLevels input sheet bytes plan = finished (firstRecord input bytes plan) (firstStart input sheet bytes plan)
 
 -- no level of an opening's first run is above the largest size, nor is a closing's cap above the highest
 pub record Bounded (plan : Plan) (levels : List ℕ) : Type 0 where

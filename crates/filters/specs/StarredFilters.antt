@@ -5,7 +5,7 @@ use mathlib.Core.Path.{_≡_}
 use mathlib.Core.List.{List, [], _∷_}
 use lib.ListN.{length, replicate}
 use Rattle.grid.specs.Starred.{Question, erosionLevels, openingLevels, dilationLevels, closingLevels, erodedBy, openedBy, Case}
-use Rattle.grid.specs.Starred.{AllHold, starredCases as cases, PairReflects, ClippingMisses}
+use Rattle.grid.specs.Starred.{croppedLevels, AllHold, starredCases as cases, PairReflects, ClippingMisses}
 use Rattle.run.specs.StarredRuns.{sheetOf, bytesOf, levelsOf, pictureOf, RunsGive, AfterOneRow}
 use Rattle.filters.specs.declared.Input.{Input}
 use Rattle.filters.specs.Filters.{Buffers, frameSize, closingSize, Opens, OpeningLevels, ClosingLevels}
@@ -40,6 +40,7 @@ FilterGives (openedBy n) c = Gives (Opens (inputOf c) (sheetOf c) (bytesOf c) n)
 FilterGives erosionLevels c = Unit {0}
 FilterGives (dilationLevels R) c = Unit {0}
 FilterGives (erodedBy n) c = Unit {0}
+FilterGives (croppedLevels width height R) c = Unit {0}
 
 abbrev pub FiltersGive : List Case → Type 0
 FiltersGive [] = Unit {0}

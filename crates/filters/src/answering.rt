@@ -16,7 +16,7 @@ ghost use Rattle.filters.specs.Plans.{startRefusals, firstRecord, firstS
 fn start_run(input: Input, sheet: &[u8], bytes: &[u8], plan: Plan, levels: &mut [u16]) -> Record
     requires { ⌜ first (startRefusals input (now sheet) (now bytes) plan (length (now levels))) ≡ 0 ⌝ }
     ensures { λ r. ⌜ (r ≡ firstRecord input (now (bytes .entry)) plan) ×
-        (now (levels .exit) ≡ firstStart input (now (sheet .entry)) plan) ⌝ }
+        (now (levels .exit) ≡ firstStart input (now (sheet .entry)) (now (bytes .entry)) plan) ⌝ }
 {
     let width = input.width;
     let height = input.height;

@@ -8,7 +8,8 @@ ghost use lib.ListN.{length, getD, replicate};
 ghost use Rattle.basics.specs.Limits.{largestSize};
 ghost use Rattle.basics.specs.Tables.{table};
 ghost use Rattle.sheet.specs.Sheets.{rowBytes};
-ghost use Rattle.run.specs.Records.{areaWidth, areaHeight, foreign, erosionKind, dilationKind};
+ghost use Rattle.run.specs.Kinds.{erosionKind, dilationKind};
+ghost use Rattle.run.specs.Records.{areaWidth, areaHeight, foreign};
 ghost use Rattle.run.specs.Demand2.{finished};
 ghost use Rattle.filters.specs.Back.{back, chosen, backStart, wayBack, keptSheet, IsHeldPart, Ready};
 
@@ -46,6 +47,7 @@ pub fn back_run(run: Record) -> Record
         side: run.side,
         rows: 0,
         cells,
+        edge: run::kinds::BACKGROUND,
     }
 }
 
@@ -75,11 +77,11 @@ fn mark_held(run: Record, size: usize, first: &[u16], second: &mut [u16])
     requires { ⌜ Ready run (now first) (now second) × (size ≤ largestSize) ⌝ }
     ensures { λ _. ⌜ now (second .exit) ≡ backStart run (now (first .entry)) size ⌝ }
 {
-    let kind = other_kind(run.kind);
+    let other = back_run(run);
     let low = run::kinds::below_held(run, size);
     let high = run::kinds::highest_held(run, size);
-    let on = run::starting::where_one(kind, row::NONE, 1);
-    let off = run::starting::where_one(kind, 0, row::NONE);
+    let on = run::kinds::on_of(other);
+    let off = run::kinds::off_of(other);
     mark(first, low, high, on, off, second);
 }
 

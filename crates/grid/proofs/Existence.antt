@@ -1,6 +1,6 @@
 -- Every level exists, for every sheet and every element that has the centre and another point.
 -- A largest level exists since n steps along that other point lead out of the frame once n reaches the larger side.
-use mathlib.Core.Path.{_≡_, subst}
+use mathlib.Core.Path.{_≡_, refl, subst}
 use mathlib.Core.Logic.{_≢_, _⊎_, inl, inr}
 use Prim.Native.Nat.{ℕ, zero, suc, _≤_, _<_, max}
 use native.Mathlib.Decide.{ℕ-discrete, decLe, decLt}
@@ -8,12 +8,14 @@ use native.Mathlib.Omega.{arith}
 use Rattle.grid.specs.Points.{Point, origin, _⊕_}
 use Rattle.grid.specs.Sets.{PointSet, eroded, dilated, opened, closed, _⊆_}
 use Rattle.grid.specs.Levels.{IsLast, IsFirst, IsErosionLevel, IsOpeningLevel, IsDilationLevel, IsClosingLevel}
+use Rattle.grid.specs.Levels.{moreThanCap, IsErosionLevelUpTo}
 use Rattle.grid.specs.Figures.{frame, figure, element}
+use Rattle.grid.specs.Crops.{uncropped}
 use Rattle.grid.proofs.PointLaws.{⊕-origin}
 use Rattle.grid.proofs.SetLaws.{fold-origin, eroded-shrinks}
 use Rattle.grid.proofs.ReachLaws.{figure-in, times, times-fold, leaves}
 use Rattle.grid.proofs.Searches.{eroded-decided, dilated-decided, opened-decided, closed-decided, figure-decided}
-use Rattle.grid.proofs.Searches.{element-searched}
+use Rattle.grid.proofs.Searches.{element-searched, uncropped-decided, Decided, Searched}
 
 module _ (width height : ℕ) (A K : PointSet) (inside : A ⊆ frame width height) (b : Point) (kb : K b) (ne : b ≢ origin) where
   -- a size that erosion or opening holds anywhere is below the larger side
@@ -88,6 +90,21 @@ first-exists F d R = found (least (suc R))
       },
     )
 
+-- the level up to a cap: either the cap's size holds, or the sizes that hold are all below the cap
+pub up-to-exists : {A K : PointSet} → Decided A → Searched K → K origin → (R : ℕ) (x : Point)
+    → (m : ℕ) × IsErosionLevelUpTo R A K x m
+up-to-exists {A} {K} d s o R x = go (eroded-decided d s R x)
+  where
+    bound : ¬ eroded A K R x → (j : ℕ) → eroded A K j x → Dec (j < R) → j < R
+    bound n j h (yes l) = l
+    bound n j h (no f) = absurd (n (eroded-shrinks A K o R j (omega arith) x h))
+
+    go : Dec (eroded A K R x) → (m : ℕ) × IsErosionLevelUpTo R A K x m
+    go (yes h) = (moreThanCap, inr (refl, h))
+    go (no n) =
+        let r = last-exists (λ j. eroded A K j x) (λ j. eroded-decided d s j x) R (λ j h. bound n j h (decLt j R)) in
+        (r .0, inl (r .2, r .1))
+
 -- for every sheet and every element with its centre set and not alone
 module _ (width height : ℕ) (pixel : ℕ → ℕ → ℕ) (side : ℕ) (cell : ℕ → ℕ → ℕ) where
   abbrev A : PointSet
@@ -118,3 +135,8 @@ module _ (width height : ℕ) (pixel : ℕ → ℕ → ℕ) (side : ℕ) (cell :
   closing-level-exists R x =
       first-exists (λ n. closed A K n x)
       (λ n. closed-decided (figure-decided width height pixel) (element-searched side cell) n x) R
+
+  -- the sheet cropped, where the centre may be alone
+  pub cropped-level-exists : K origin → (R : ℕ) (x : Point) → (m : ℕ) × IsErosionLevelUpTo R (uncropped width height A) K x m
+  cropped-level-exists o =
+      up-to-exists (uncropped-decided width height (figure-decided width height pixel)) (element-searched side cell) o

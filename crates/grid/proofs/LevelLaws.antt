@@ -1,7 +1,7 @@
 -- A level fixes its value; and what a level says of each size: the thresholding facts.
 -- All four levels come from two lemmas, over any property F of sizes that falls or grows.
 use mathlib.Core.Path.{_≡_, refl, sym, ap, subst, _∙_}
-use mathlib.Core.Logic.{_↔_}
+use mathlib.Core.Logic.{_↔_, inl, inr}
 use Prim.Native.Nat.{ℕ, zero, suc, _≤_, _<_}
 use native.Mathlib.Decide.{decLt}
 use native.Mathlib.Nat.{le-antisymm}
@@ -9,6 +9,7 @@ use native.Mathlib.Omega.{arith}
 use Rattle.grid.specs.Points.{Point, origin, _⊕_}
 use Rattle.grid.specs.Sets.{PointSet, eroded, dilated, opened, closed}
 use Rattle.grid.specs.Levels.{IsLast, IsFirst, IsErosionLevel, IsOpeningLevel, IsDilationLevel, IsClosingLevel}
+use Rattle.grid.specs.Levels.{moreThanCap, IsErosionLevelUpTo}
 use Rattle.grid.proofs.PointLaws.{⊕-origin}
 use Rattle.grid.proofs.SetLaws.{eroded-shrinks, dilated-grows, opened-shrinks, closed-grows}
 
@@ -63,3 +64,15 @@ module _ (A K : PointSet) (x : Point) {m : ℕ} where
 
   pub closing-iff : {R : ℕ} → IsClosingLevel R A K x m → (n : ℕ) → n ≤ R → closed A K n x ↔ ((0 < m) × (m ≤ suc n))
   closing-iff p = first-iff (λ i j l. closed-grows A K i j l x) p
+
+-- THE LEVEL UP TO A CAP: there is one at most, and it tells the sizes up to the cap
+module _ (R : ℕ) (A K : PointSet) (x : Point) {m : ℕ} where
+  pub up-to-unique : {n : ℕ} → IsErosionLevelUpTo R A K x m → IsErosionLevelUpTo R A K x n → m ≡ n
+  up-to-unique (inl (l, p)) (inl (k, q)) = last-unique p q
+  up-to-unique (inl (l, p)) (inr (e, h)) = let g = p .above R h in absurd (omega arith)
+  up-to-unique (inr (e, h)) (inl (k, q)) = let g = q .above R h in absurd (omega arith)
+  up-to-unique (inr (e, h)) (inr (f, g)) = e ∙ sym f
+
+  pub up-to-iff : K origin → R < moreThanCap → IsErosionLevelUpTo R A K x m → (n : ℕ) → n ≤ R → eroded A K n x ↔ (n < m)
+  up-to-iff o below (inl (l, p)) n k = erosion-iff A K x o p n
+  up-to-iff o below (inr (e, h)) n k = ((λ g. omega arith), λ g. eroded-shrinks A K o n R k x h)

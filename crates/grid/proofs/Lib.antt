@@ -5,5 +5,6 @@ pub mod SameSets
 pub mod FigureLaws
 pub mod ReachLaws
 pub mod Searches
+pub mod CropLaws
 pub mod Existence
 pub mod Starred

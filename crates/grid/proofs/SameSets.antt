@@ -4,9 +4,10 @@ use mathlib.Core.Logic.{inl, inr, _↔_}
 use Prim.Native.Nat.{ℕ, zero, suc}
 use Rattle.grid.specs.Points.{Point}
 use Rattle.grid.specs.Sets.{PointSet, fold, eroded, dilated, opened, closed, _⊆_, _≈_}
-use Rattle.grid.specs.Levels.{IsLast, IsFirst}
+use Rattle.grid.specs.Levels.{IsLast, IsFirst, IsErosionLevelUpTo}
+use Rattle.grid.specs.Crops.{uncropped}
 use Rattle.grid.specs.Starred.{Question, erosionLevels, openingLevels, dilationLevels, closingLevels, erodedBy, openedBy}
-use Rattle.grid.specs.Starred.{IsPixel, IsAnswer}
+use Rattle.grid.specs.Starred.{croppedLevels, IsPixel, IsAnswer}
 use Rattle.grid.proofs.SetLaws.{dilate-parts, erode-parts}
 
 fold-parts : (K L : PointSet) → K ⊆ L → (n : ℕ) → fold K n ⊆ fold L n
@@ -26,6 +27,15 @@ module _ {A B K L : PointSet} (same : A ≈ B) (alike : K ≈ L) (n : ℕ) where
 
   pub dilated-same : dilated A K n ≈ dilated B L n
   dilated-same = (dilated-parts A B K L (same .0) (alike .0) n, dilated-parts B A L K (same .1) (alike .1) n)
+
+-- a sheet cropped
+uncropped-parts : (width height : ℕ) (A B : PointSet) → A ⊆ B → uncropped width height A ⊆ uncropped width height B
+uncropped-parts width height A B part x (inl a) = inl (part x a)
+uncropped-parts width height A B part x (inr f) = inr f
+
+pub uncropped-same : (width height : ℕ) {A B : PointSet} → A ≈ B → uncropped width height A ≈ uncropped width height B
+uncropped-same width height {A} {B} same =
+    (uncropped-parts width height A B (same .0), uncropped-parts width height B A (same .1))
 
 module _ {A B K L : PointSet} (same : A ≈ B) (alike : K ≈ L) (n : ℕ) where
   pub opened-same : opened A K n ≈ opened B L n
@@ -49,6 +59,11 @@ pixel-same : {P Q : Type 0} {v : ℕ} → P ↔ Q → IsPixel P v → IsPixel Q 
 pixel-same same (inl p) = inl (p .0, same .0 (p .1))
 pixel-same same (inr p) = inr (p .0, λ q. p .1 (same .1 q))
 
+up-to-same : {A B K L : PointSet} {R m : ℕ} → A ≈ B → K ≈ L → (x : Point) → IsErosionLevelUpTo R A K x m
+    → IsErosionLevelUpTo R B L x m
+up-to-same same alike x (inl (l, p)) = inl (l, last-same (λ n. let e = eroded-same same alike n in (e .0 x, e .1 x)) p)
+up-to-same {R = R} same alike x (inr (e, h)) = inr (e, eroded-same same alike R .0 x h)
+
 -- EVERY ANSWER
 pub answer-same : {A B K L : PointSet} → A ≈ B → K ≈ L → (q : Question) (x : Point) (v : ℕ) → IsAnswer q A K x v
     → IsAnswer q B L x v
@@ -58,3 +73,4 @@ answer-same same alike (dilationLevels R) x v = first-same (λ n. let e = dilate
 answer-same same alike (closingLevels R) x v = first-same (λ n. let e = closed-same same alike n in (e .0 x, e .1 x))
 answer-same same alike (erodedBy n) x v = let e = eroded-same same alike n in pixel-same (e .0 x, e .1 x)
 answer-same same alike (openedBy n) x v = let e = opened-same same alike n in pixel-same (e .0 x, e .1 x)
+answer-same same alike (croppedLevels width height R) x v = up-to-same (uncropped-same width height same) alike x

@@ -2,6 +2,7 @@
 -- A set can be searched where "all of its points" and "one of its points" can be decided; sums of such sets can be searched
 -- again.
 use mathlib.Core.Path.{_≡_, refl, sym, _∙_, ap, ap₂, subst}
+use mathlib.Core.Logic.{_⊎_, inl, inr, ⊎-elim}
 use Prim.Native.Nat.{ℕ, zero, suc, _<_}
 use native.Mathlib.Decide.{ℕ-discrete, decLt}
 use native.Mathlib.Omega.{arith}
@@ -9,6 +10,7 @@ use lib.IntN.{ℤ, pos, negsuc, pos-ne-negsuc}
 use Rattle.grid.specs.Points.{Point, at, origin, _⊕_, neg}
 use Rattle.grid.specs.Sets.{PointSet, dilate, erode, fold, eroded, dilated, opened, closed}
 use Rattle.grid.specs.Figures.{frame, figure, element, reach}
+use Rattle.grid.specs.Crops.{uncropped, background}
 use Rattle.grid.proofs.PointLaws.{⊕-move, ⊕-cancel, ⊖-cancel, pos-inj}
 
 -- every number below n; one of them
@@ -46,6 +48,11 @@ unfoldable pub both-dec : {P Q : Type 0} → Dec P → Dec Q → Dec (P × Q)
 both-dec (yes p) (yes q) = yes (p, q)
 both-dec (yes p) (no n) = no (λ h. n (h .1))
 both-dec (no n) q = no (λ h. n (h .0))
+
+unfoldable pub either-dec : {P Q : Type 0} → Dec P → Dec Q → Dec (P ⊎ Q)
+either-dec (yes p) q = yes (inl p)
+either-dec (no n) (yes q) = yes (inr q)
+either-dec (no n) (no m) = no (⊎-elim n m)
 
 unfoldable pub implies-dec : {P Q : Type 0} → Dec P → Dec Q → Dec (P → Q)
 implies-dec (yes p) (yes q) = yes (λ _. q)
@@ -171,6 +178,13 @@ unfoldable pub frame-decided : (width height : ℕ) → Decided (frame width hei
 frame-decided width height x =
     same-dec (λ h. (h .0, h .1, h .2, h .3, h .5)) (λ h. (h .0, h .1, h .2, h .3, refl, h .4))
     (figure-decided width height (λ row col. 1) x)
+
+module _ (width height : ℕ) {A : PointSet} (d : Decided A) where
+  unfoldable pub uncropped-decided : Decided (uncropped width height A)
+  uncropped-decided x = either-dec (d x) (not-dec (frame-decided width height x))
+
+  unfoldable pub background-decided : Decided (background width height A)
+  background-decided x = both-dec (frame-decided width height x) (not-dec (d x))
 
 unfoldable pub element-searched : (side : ℕ) (cell : ℕ → ℕ → ℕ) → Searched (element side cell)
 element-searched side cell = moved-searched (figure-searched side side cell) (at (pos (reach side)) (pos (reach side)))

@@ -1,8 +1,8 @@
 -- The starred cases hold of the definitions, by one test that is computed over the whole starredCases.
 -- A level is tested by two sizes alone: the one that it names is held and the next is not (or the one before, for dilation and
--- closing), since the sets shrink or grow with the size.
+-- closing), since the sets shrink or grow with the size; a level above its cap by the cap's size alone.
 use mathlib.Core.Path.{_≡_, refl, subst}
-use mathlib.Core.Logic.{inl, inr}
+use mathlib.Core.Logic.{_⊎_, inl, inr}
 use mathlib.Core.List.{List, [], _∷_}
 use Prim.Native.Nat.{ℕ, zero, suc, _-_, _≤_, _<_}
 use native.Mathlib.Decide.{ℕ-discrete, decLe, decLt}
@@ -10,17 +10,18 @@ use native.Mathlib.Omega.{arith}
 use lib.IntN.{pos}
 use Rattle.grid.specs.Points.{Point, at, origin, _⊕_}
 use Rattle.grid.specs.Sets.{PointSet, eroded, dilated, opened, closed}
-use Rattle.grid.specs.Levels.{IsLast, IsFirst}
+use Rattle.grid.specs.Levels.{IsLast, IsFirst, moreThanCap, IsErosionLevelUpTo}
 use Rattle.grid.specs.Figures.{reach}
+use Rattle.grid.specs.Crops.{uncropped}
 use Rattle.grid.specs.Starred.{drawn, Question, erosionLevels, openingLevels, dilationLevels, closingLevels, erodedBy}
 use Rattle.grid.specs.Starred.{openedBy, IsPixel, IsAnswer, Case, figureOf, shapeOf, AllHold, starredCases, hook, clipped}
-use Rattle.grid.specs.Starred.{pair, pairReflected, PairReflects, ClippingMisses}
+use Rattle.grid.specs.Starred.{croppedLevels, pair, pairReflected, PairReflects, ClippingMisses}
 use Rattle.grid.proofs.SetLaws.{eroded-shrinks, dilated-grows, opened-shrinks, closed-grows}
 use Rattle.grid.proofs.FigureLaws.{element-reflect}
-use Rattle.grid.proofs.Searches.{Yes, by-test, Decided, Searched, all-below, any-below, not-dec, both-dec, implies-dec}
-use Rattle.grid.proofs.Searches.{same-dec, origin-searched, dilate-searched, fold-searched, moved-searched, erode-decided}
-use Rattle.grid.proofs.Searches.{dilate-decided, eroded-decided, dilated-decided, opened-decided, closed-decided}
-use Rattle.grid.proofs.Searches.{frame-decided, figure-decided, figure-searched, element-searched}
+use Rattle.grid.proofs.Searches.{Yes, by-test, Decided, Searched, all-below, any-below, not-dec, both-dec, either-dec}
+use Rattle.grid.proofs.Searches.{implies-dec, same-dec, origin-searched, dilate-searched, fold-searched, moved-searched}
+use Rattle.grid.proofs.Searches.{erode-decided, dilate-decided, eroded-decided, dilated-decided, opened-decided}
+use Rattle.grid.proofs.Searches.{closed-decided, figure-decided, figure-searched, frame-decided, uncropped-decided, element-searched}
 
 -- the two sizes that show a level
 LastAt : (ℕ → Type 0) → ℕ → Type 0
@@ -76,6 +77,22 @@ module _ (F : ℕ → Type 0) where
   first-at-dec d R (suc zero) = d zero
   first-at-dec d R (suc (suc k)) = both-dec (decLe (suc k) R) (both-dec (d (suc k)) (not-dec (d k)))
 
+-- the same up to a cap: the two sizes, or the cap's size where the value says more
+UpToAt : ℕ → PointSet → PointSet → Point → ℕ → Type 0
+UpToAt R A K x v = ((v ≤ R) × LastAt (λ n. eroded A K n x) v) ⊎ ((v ≡ moreThanCap) × eroded A K R x)
+
+module _ (R : ℕ) (A K : PointSet) (x : Point) (v : ℕ) where
+  up-to-at : K origin → UpToAt R A K x v → IsErosionLevelUpTo R A K x v
+  unfolding UpToAt
+  up-to-at o (inl t) = inl (t .0, last-at (λ n. eroded A K n x) (λ i j l. eroded-shrinks A K o i j l x) v (t .1))
+  up-to-at o (inr t) = inr t
+
+  up-to-at-dec : Decided A → Searched K → Dec (UpToAt R A K x v)
+  unfolding UpToAt
+  up-to-at-dec d s =
+      either-dec (both-dec (decLe v R) (last-at-dec (λ n. eroded A K n x) (λ n. eroded-decided d s n x) v))
+      (both-dec (ℕ-discrete v moreThanCap) (eroded-decided d s R x))
+
 -- what is tested at a point, and that it shows the answer
 Tested : Question → PointSet → PointSet → Point → ℕ → Type 0
 Tested erosionLevels A K x v = LastAt (λ n. eroded A K n x) v
@@ -84,6 +101,7 @@ Tested (dilationLevels R) A K x v = FirstAt R (λ n. dilated A K n x) v
 Tested (closingLevels R) A K x v = FirstAt R (λ n. closed A K n x) v
 Tested (erodedBy n) A K x v = IsPixel (eroded A K n x) v
 Tested (openedBy n) A K x v = IsPixel (opened A K n x) v
+Tested (croppedLevels width height R) A K x v = UpToAt R (uncropped width height A) K x v
 
 pixel-dec : (P : Type 0) → Dec P → (v : ℕ) → Dec (IsPixel P v)
 pixel-dec P (yes p) v = same-dec (λ e. inl (e, p)) one (ℕ-discrete v 1)
@@ -106,6 +124,7 @@ module _ (A K : PointSet) (x : Point) (v : ℕ) where
   answered (closingLevels R) o t = first-at (λ n. closed A K n x) (λ i j l. closed-grows A K i j l x) R v t
   answered (erodedBy n) o t = t
   answered (openedBy n) o t = t
+  answered (croppedLevels width height R) o t = up-to-at R (uncropped width height A) K x v o t
 
   tested-dec : (q : Question) → Decided A → Searched K → Dec (Tested q A K x v)
   unfolding Tested
@@ -115,6 +134,8 @@ module _ (A K : PointSet) (x : Point) (v : ℕ) where
   tested-dec (closingLevels R) d s = first-at-dec (λ n. closed A K n x) (λ n. closed-decided d s n x) R v
   tested-dec (erodedBy n) d s = pixel-dec (eroded A K n x) (eroded-decided d s n x) v
   tested-dec (openedBy n) d s = pixel-dec (opened A K n x) (opened-decided d s n x) v
+  tested-dec (croppedLevels width height R) d s =
+      up-to-at-dec R (uncropped width height A) K x v (uncropped-decided width height d) s
 
 -- the whole starredCases
 CaseTested : Case → Type 0
@@ -153,10 +174,10 @@ all-dec (c ∷ cases) = both-dec (case-dec c) (all-dec cases)
 
 -- what the tests compute with
 table-tested : AllTested starredCases
-unfolding Yes all-dec AllTested case-dec CaseTested tested-dec Tested pixel-dec LastAt FirstAt last-at-dec first-at-dec
-    all-below any-below not-dec both-dec implies-dec same-dec origin-searched dilate-searched fold-searched moved-searched
-    erode-decided dilate-decided eroded-decided dilated-decided opened-decided closed-decided figure-decided figure-searched
-    element-searched ℕ-discrete decLe decLt
+unfolding Yes all-dec AllTested case-dec CaseTested tested-dec Tested pixel-dec LastAt FirstAt UpToAt last-at-dec first-at-dec
+    up-to-at-dec all-below any-below not-dec both-dec either-dec implies-dec same-dec origin-searched dilate-searched
+    fold-searched moved-searched erode-decided dilate-decided eroded-decided dilated-decided opened-decided closed-decided
+    figure-decided figure-searched frame-decided uncropped-decided element-searched ℕ-discrete decLe decLt
 table-tested = by-test (all-dec starredCases) tt
 
 -- THE CLAIM: every starred case holds of the definitions

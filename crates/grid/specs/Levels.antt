@@ -1,6 +1,7 @@
 -- The level of a point, after Chen and Haralick's definitions 12, 13, 14 and 18, with document 01's cap.
 -- F n says that the point is held at size n.
 use mathlib.Core.Path.{_≡_}
+use mathlib.Core.Logic.{_⊎_}
 use Prim.Native.Nat.{ℕ, suc, _≤_, _<_}
 use Rattle.grid.specs.Points.{Point}
 use Rattle.grid.specs.Sets.{PointSet, eroded, dilated, opened, closed}
@@ -29,3 +30,10 @@ IsDilationLevel R A K x = IsFirst R (λ n. dilated A K n x)
 
 abbrev pub IsClosingLevel : ℕ → PointSet → PointSet → Point → ℕ → Type 0
 IsClosingLevel R A K x = IsFirst R (λ n. closed A K n x)
+
+-- the erosion level where it is at most R; 65,535 where eroding by R still holds the point
+abbrev pub moreThanCap : ℕ
+moreThanCap = 65535
+
+abbrev pub IsErosionLevelUpTo : ℕ → PointSet → PointSet → Point → ℕ → Type 0
+IsErosionLevelUpTo R A K x m = ((m ≤ R) × IsErosionLevel A K x m) ⊎ ((m ≡ moreThanCap) × eroded A K R x)

@@ -3,4 +3,5 @@ pub mod Points
 pub mod Sets
 pub mod Levels
 pub mod Figures
+pub mod Crops
 pub mod Starred

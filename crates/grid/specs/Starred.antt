@@ -1,5 +1,5 @@
--- Document 01's small sheets worked by hand, those marked * : one starredCases, proved in proofs/Starred.antt to hold of the
--- definitions.
+-- Document 01's small sheets worked by hand, those marked *, and two cropped ones: one starredCases, proved in proofs/Starred.antt
+-- to hold of the definitions.
 -- Sheets, elements and answers are drawn row by row; an element's origin is at the centre of its square.
 use mathlib.Core.Path.{_≡_}
 use mathlib.Core.Logic.{_⊎_}
@@ -9,8 +9,9 @@ use lib.IntN.{pos}
 use lib.ListN.{getD}
 use Rattle.grid.specs.Points.{Point, at}
 use Rattle.grid.specs.Sets.{PointSet, reflect, dilate, dilated, eroded, opened, _≈_}
-use Rattle.grid.specs.Levels.{IsErosionLevel, IsOpeningLevel, IsDilationLevel, IsClosingLevel}
+use Rattle.grid.specs.Levels.{IsErosionLevel, IsOpeningLevel, IsDilationLevel, IsClosingLevel, IsErosionLevelUpTo}
 use Rattle.grid.specs.Figures.{frame, figure, element}
+use Rattle.grid.specs.Crops.{uncropped}
 
 abbrev pub Drawing : Type 0
 Drawing = List (List ℕ)
@@ -18,11 +19,12 @@ Drawing = List (List ℕ)
 abbrev pub drawn : Drawing → ℕ → ℕ → ℕ
 drawn drawing row col = getD (getD drawing row []) col 0
 
--- what is asked of a sheet and an element; the numbers are sizes and caps
+-- what is asked of a sheet and an element; the numbers are sizes and caps, of a cropped sheet its frame's sides and the cap
 pub data Question : Type 0 where
   erosionLevels openingLevels : Question
   dilationLevels closingLevels : ℕ → Question
   erodedBy openedBy : ℕ → Question
+  croppedLevels : ℕ → ℕ → ℕ → Question
 
 -- a pixel is 1 where its point is held, and 0 where it is not
 abbrev pub IsPixel : Type 0 → ℕ → Type 0
@@ -36,6 +38,7 @@ IsAnswer (dilationLevels R) A K x v = IsDilationLevel R A K x v
 IsAnswer (closingLevels R) A K x v = IsClosingLevel R A K x v
 IsAnswer (erodedBy n) A K x v = IsPixel (eroded A K n x) v
 IsAnswer (openedBy n) A K x v = IsPixel (opened A K n x) v
+IsAnswer (croppedLevels width height R) A K x v = IsErosionLevelUpTo R (uncropped width height A) K x v
 
 pub record Case : Type 0 where
   pub width : ℕ
@@ -98,6 +101,12 @@ empty =
     (0 ∷ 0 ∷ 0 ∷ []) ∷
     (0 ∷ 0 ∷ 0 ∷ []) ∷ []
 
+abbrev pub ring : Drawing
+ring =
+    (1 ∷ 1 ∷ 1 ∷ []) ∷
+    (1 ∷ 0 ∷ 1 ∷ []) ∷
+    (1 ∷ 1 ∷ 1 ∷ []) ∷ []
+
 abbrev pub oneRow : List ℕ → Drawing
 oneRow row = row ∷ []
 
@@ -144,6 +153,15 @@ starredCases =
     case 3 3 empty cross (closingLevels 1) empty ∷
     case 1 1 (oneRow (1 ∷ [])) cross erosionLevels (oneRow (1 ∷ [])) ∷
     case 1 1 (oneRow (1 ∷ [])) cross (dilationLevels 1) (oneRow (1 ∷ [])) ∷
+    -- a crop whose sheet is full, and one with its centre unset
+    case 3 3 full cross (croppedLevels 3 3 2)
+    ((65535 ∷ 65535 ∷ 65535 ∷ []) ∷
+    (65535 ∷ 65535 ∷ 65535 ∷ []) ∷
+    (65535 ∷ 65535 ∷ 65535 ∷ []) ∷ []) ∷
+    case 3 3 ring cross (croppedLevels 3 3 2)
+    ((2 ∷ 1 ∷ 2 ∷ []) ∷
+    (1 ∷ 0 ∷ 1 ∷ []) ∷
+    (2 ∷ 1 ∷ 2 ∷ []) ∷ []) ∷
     []
 
 -- case 3's element is case 2's, reflected

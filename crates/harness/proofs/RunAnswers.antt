@@ -11,37 +11,29 @@ use Rattle.basics.specs.Refusals.{Refusal, first, Answers}
 use Rattle.basics.proofs.RefusalLaws.{numbered}
 use Rattle.run.specs.declared.Record.{Record}
 use Rattle.run.specs.Records.{recordBad, noRecord}
+use Rattle.run.specs.Starting.{begun}
 use Rattle.run.specs.Continuing.{levelsWrong, continueRefusals, Continues}
 use Rattle.run.specs.Provisional.{provisionalRefusals, ShowsProvisional}
 use Rattle.harness.specs.Boundary.{recordWords, wordsOf, recordOf, holdsNoRecord, wordsRefusal, answerRefusal}
 use Rattle.harness.specs.Boundary.{atEleven, answered, atLatest}
-use Rattle.harness.specs.Runs.{flag, continueWords, ContinuesWords, ShowsProvisionalWords}
+use Rattle.harness.specs.Runs.{StartsWords, flag, continueWords, ContinuesWords, ShowsProvisionalWords}
 use Rattle.harness.proofs.AnswerLaws.{upToEleven, latest-refuses, carried-refusal, carried-answer, answer-fits}
 use Rattle.harness.proofs.AnswerLaws.{slice-answers, two-stored}
 
 -- STARTING: the record goes into the words
-module _ (refusals : List Refusal) (t : T (numbered refusals)) (levels words : List ℕ)
-    (a : length words ≡ recordWords) {begun : Record} {started : List ℕ} (n : ℕ) (run : Record) (after : List ℕ)
-    (p : Answers {A = Record × List ℕ} refusals (noRecord, levels) (λ x. x ≡ (begun, started)) n (run, after)) where
-  abbrev StartsWords : ℕ → List ℕ × List ℕ → Type 0
-  StartsWords = Answers (refusals ++ answerRefusal recordWords words ∷ []) (levels, words) (λ x. x ≡ (started, wordsOf begun))
+module _ (refusals : List Refusal) (t : T (numbered refusals)) (r : Record) (sheet levels words : List ℕ) where
+  pub start-answers : length words ≡ recordWords → (n : ℕ) (run : Record) (after : List ℕ)
+      → Answers {A = Record × List ℕ} refusals (noRecord, levels) (λ x. x ≡ begun r sheet) n (run, after)
+      → (next : List ℕ) → next ≡ answered n (wordsOf run) words → StartsWords refusals r sheet levels words n (after, next)
+  start-answers a n run after p next e = slice-answers wordsOf words next p (answer-fits refusals t recordWords words a) e
 
-  pub start-answers : (next : List ℕ) → next ≡ answered n (wordsOf run) words → StartsWords n (after, next)
-  start-answers next e = slice-answers wordsOf words next p (answer-fits refusals t recordWords words a) e
-
--- and where the words are of another length
-pub start-other : (refusals : List Refusal) → T (numbered refusals) → T (upToEleven refusals)
-    → (levels words : List ℕ) {begun : Record} {started : List ℕ} → length words ≢ recordWords → {number n : ℕ}
-    → number ≡ atLatest n
-    → n ≡ first refusals
-    → Answers {A = List ℕ × List ℕ} (refusals ++ answerRefusal recordWords words ∷ []) (
-      levels,
-      words,
-    ) (λ x. x ≡ (started, wordsOf begun)) number (levels, words)
-start-other refusals t u levels words a e f =
-    latest-refuses refusals [] t u tt (refusals ++ answerRefusal recordWords words ∷ [])
-    (rw (ne-eqb (length words) recordWords a)) e
-    (f ∙ ap first (sym (append-nil refusals)))
+  -- and where the words are of another length
+  pub start-other : T (upToEleven refusals) → length words ≢ recordWords → {number n : ℕ} → number ≡ atLatest n
+      → n ≡ first refusals → StartsWords refusals r sheet levels words number (levels, words)
+  start-other u a e f =
+      latest-refuses refusals [] t u tt (refusals ++ answerRefusal recordWords words ∷ [])
+      (rw (ne-eqb (length words) recordWords a)) e
+      (f ∙ ap first (sym (append-nil refusals)))
 
 -- CONTINUING
 module _ (words levels : List ℕ) (allowance : ℕ) (answer : List ℕ) where

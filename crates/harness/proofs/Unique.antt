@@ -5,8 +5,8 @@ use mathlib.Core.List.{List}
 use Rattle.basics.proofs.RefusalLaws.{rule-unique}
 use Rattle.element.specs.Reflect.{Reflects}
 use Rattle.harness.specs.Files.{ReadsSheet, WritesSheet, WritesPicture}
-use Rattle.harness.specs.Runs.{StartsErosionWords, StartsDilationWords, ContinuesWords, CollectsWords, ThresholdsWords}
-use Rattle.harness.specs.Runs.{ShowsProvisionalWords}
+use Rattle.harness.specs.Runs.{StartsErosionWords, StartsDilationWords, StartsCroppedWords, ContinuesWords, CollectsWords}
+use Rattle.harness.specs.Runs.{ThresholdsWords, ShowsProvisionalWords}
 
 module _ (m n : ℕ) where
   pub reflect-unique : (side : ℕ) (cells out x y : List ℕ) → Reflects side cells out m x → Reflects side cells out n y
@@ -52,3 +52,8 @@ module _ (m n : ℕ) where
         → StartsDilationWords width height sheet side cells cap levels words m x
         → StartsDilationWords width height sheet side cells cap levels words n y → (m ≡ n) × (x ≡ y)
     start-dilation-unique width height sheet side cells cap levels words = rule-unique m n x y
+
+    pub start-cropped-unique : (width height : ℕ) (sheet : List ℕ) (side : ℕ) (cells : List ℕ) (cap : ℕ) (levels words : List ℕ)
+        → StartsCroppedWords width height sheet side cells cap levels words m x
+        → StartsCroppedWords width height sheet side cells cap levels words n y → (m ≡ n) × (x ≡ y)
+    start-cropped-unique width height sheet side cells cap levels words = rule-unique m n x y

@@ -1,29 +1,32 @@
 -- What crosses the boundary to C: a record as words, and the slices that take the answers beside a call's number.
 use Prim.Native.Nat.{ℕ, _+_}
 use mathlib.Core.Bool.{Bool, not, cond, _||_}
-use mathlib.Core.List.{List, [], _∷_}
+use mathlib.Core.List.{List, [], _∷_, _++_}
 use lib.Dec.{eqb, ltb}
-use lib.ListN.{length, getD, drop}
+use lib.ListN.{length, getD, take, drop}
 use Rattle.basics.specs.Bounds.{anyAbove}
 use Rattle.basics.specs.Refusals.{Refusal}
 use Rattle.run.specs.declared.Record.{Record}
 
--- six numbers, and then the cells
+-- six numbers, then the cells, then the edge rule
 abbrev pub recordNumbers : ℕ
 recordNumbers = 6
 
 abbrev pub recordCells : ℕ
 recordCells = 49
 
+abbrev pub edgePlace : ℕ
+edgePlace = recordNumbers + recordCells
+
 abbrev pub recordWords : ℕ
-recordWords = recordNumbers + recordCells
+recordWords = edgePlace + 1
 
 abbrev pub highestByte : ℕ
 highestByte = 255
 
--- kind, width, height, cap, side, rows done, then the cells
+-- kind, width, height, cap, side, rows done, then the cells, then the edge rule
 abbrev pub wordsOf : Record → List ℕ
-wordsOf r = r .kind ∷ r .width ∷ r .height ∷ r .cap ∷ r .side ∷ r .rows ∷ r .cells
+wordsOf r = r .kind ∷ r .width ∷ r .height ∷ r .cap ∷ r .side ∷ r .rows ∷ (r .cells ++ r .edge ∷ [])
 
 abbrev pub recordOf : List ℕ → Record
 recordOf words =
@@ -34,10 +37,11 @@ recordOf words =
       cap = getD words 3 0;
       side = getD words 4 0;
       rows = getD words 5 0;
-      cells = drop recordNumbers words;
+      cells = take recordCells (drop recordNumbers words);
+      edge = getD words edgePlace 0;
     }
 
--- words that no record holds: of another count, or a kind or a cell that is more than a byte
+-- words that no record holds: of another count, or a kind, a cell or an edge rule that is more than a byte
 unfoldable pub holdsNoRecord : List ℕ → Bool
 holdsNoRecord words =
     not (eqb (length words) recordWords) || ltb highestByte (getD words 0 0) || anyAbove highestByte (drop recordNumbers words)

@@ -4,9 +4,9 @@ use Prim.Native.Nat.{ℕ}
 use mathlib.Core.Path.{_≡_}
 use mathlib.Core.Bool.{Bool, cond}
 use mathlib.Core.List.{List, [], _∷_, _++_}
-use Rattle.basics.specs.Refusals.{Answers}
-use Rattle.row.specs.RowRule.{none}
-use Rattle.run.specs.Records.{marginOf}
+use Rattle.basics.specs.Refusals.{Refusal, Answers}
+use Rattle.run.specs.declared.Record.{Record}
+use Rattle.run.specs.Kinds.{eroding, dilating, cropping}
 use Rattle.run.specs.Starting.{startRecord, startLevels, erosionRefusals, dilationRefusals}
 use Rattle.run.specs.Continuing.{State, isDone, continueRefusals, continued, loweredBy}
 use Rattle.run.specs.Pictures.{collected, collectRefusals, thresholded, thresholdRefusals}
@@ -14,18 +14,24 @@ use Rattle.run.specs.Provisional.{provisionalRefusals}
 use Rattle.harness.specs.Boundary.{recordWords, wordsOf, recordOf, wordsRefusal, answerRefusal, atEleven}
 
 -- starting: the levels, and the record
+abbrev pub StartsWords : List Refusal → Record → List ℕ → List ℕ → List ℕ → ℕ → List ℕ × List ℕ → Type 0
+StartsWords refusals run sheet levels words =
+    Answers (refusals ++ answerRefusal recordWords words ∷ []) (levels, words)
+    (λ after. after ≡ (startLevels run sheet, wordsOf run))
+
 abbrev pub StartsErosionWords : ℕ → ℕ → List ℕ → ℕ → List ℕ → List ℕ → List ℕ → ℕ → List ℕ × List ℕ → Type 0
-StartsErosionWords width height sheet side cells levels words =
-    Answers (erosionRefusals width height sheet side cells levels ++ answerRefusal recordWords words ∷ []) (levels, words)
-    (λ after. after ≡ (startLevels width height 0 sheet none 0, wordsOf (startRecord 1 width height 0 side cells)))
+StartsErosionWords width height sheet side cells levels =
+    StartsWords (erosionRefusals width height sheet side cells levels) (startRecord eroding width height 0 side cells) sheet levels
 
 abbrev pub StartsDilationWords : ℕ → ℕ → List ℕ → ℕ → List ℕ → ℕ → List ℕ → List ℕ → ℕ → List ℕ × List ℕ → Type 0
-StartsDilationWords width height sheet side cells cap levels words =
-    Answers (dilationRefusals width height sheet side cells cap levels ++ answerRefusal recordWords words ∷ []) (levels, words)
-    (λ after. after ≡ (
-      startLevels width height (marginOf cap side) sheet 1 none,
-      wordsOf (startRecord 2 width height cap side cells),
-    ))
+StartsDilationWords width height sheet side cells cap levels =
+    StartsWords (dilationRefusals width height sheet side cells cap levels) (startRecord dilating width height cap side cells) sheet
+    levels
+
+abbrev pub StartsCroppedWords : ℕ → ℕ → List ℕ → ℕ → List ℕ → ℕ → List ℕ → List ℕ → ℕ → List ℕ × List ℕ → Type 0
+StartsCroppedWords width height sheet side cells cap levels =
+    StartsWords (dilationRefusals width height sheet side cells cap levels) (startRecord cropping width height cap side cells) sheet
+    levels
 
 -- continuing: the record, the levels, and two words: whether all rows are done, as 1 or 0, and how many points were lowered
 abbrev pub flag : Bool → ℕ

@@ -4,8 +4,9 @@ use super::words;
 use run::starting::Started;
 ghost use mathlib.Core.Path.{_≡_};
 ghost use lib.ListN.{length};
+ghost use Rattle.run.specs.Starting.{freshRecord, dilationRefusals};
 ghost use Rattle.harness.specs.Boundary.{recordWords, wordsOf, answered};
-ghost use Rattle.harness.specs.Runs.{flag, StartsErosionWords, StartsDilationWords};
+ghost use Rattle.harness.specs.Runs.{flag, StartsWords, StartsErosionWords, StartsDilationWords, StartsCroppedWords};
 ghost use Rattle.harness.specs.Runs.{ContinuesWords, CollectsWords, ThresholdsWords, ShowsProvisionalWords};
 
 // Public: the frame's levels of a finished run, into `out`. Refusals 1, 10, 11, 13.
@@ -150,9 +151,10 @@ pub extern "C" fn wt_start_erosion(
     answer_start(started, words)
 }
 
-// Public: starts a dilation; its record goes into `words`. Refusals 2 to 11.
-#[no_mangle]
-pub extern "C" fn wt_start_dilation(
+// Starts a run on the canvas of a cap, with a kind and an edge rule; its record goes into `words`. Refusals 2 to 11.
+fn start_on_canvas(
+    kind: u8,
+    edge: u8,
     width: u64,
     height: u64,
     sheet: &[u8],
@@ -162,7 +164,9 @@ pub extern "C" fn wt_start_dilation(
     levels: &mut [u16],
     words: &mut [u64],
 ) -> u32
-    ensures { λ r. ⌜ StartsDilationWords width height (now (sheet .entry)) side (now (cells .entry)) cap (now (levels .entry))
+    ensures { λ r. ⌜ StartsWords
+        (dilationRefusals width height (now (sheet .entry)) side (now (cells .entry)) cap (now (levels .entry)))
+        (freshRecord kind edge width height cap side (now (cells .entry))) (now (sheet .entry)) (now (levels .entry))
         (now (words .entry)) r (now (levels .exit), now (words .exit)) ⌝ }
 {
     let columns = width as usize;
@@ -181,7 +185,9 @@ pub extern "C" fn wt_start_dilation(
         );
         return answers::at_latest(refusal);
     }
-    let started = run::starting::start_dilation(
+    let started = run::starting::start_on_canvas(
+        kind,
+        edge,
         columns,
         rows,
         sheet,
@@ -191,4 +197,62 @@ pub extern "C" fn wt_start_dilation(
         levels,
     );
     answer_start(started, words)
+}
+
+// Public: starts a dilation; its record goes into `words`. Refusals 2 to 11.
+#[no_mangle]
+pub extern "C" fn wt_start_dilation(
+    width: u64,
+    height: u64,
+    sheet: &[u8],
+    side: u64,
+    cells: &[u8],
+    cap: u64,
+    levels: &mut [u16],
+    words: &mut [u64],
+) -> u32
+    ensures { λ r. ⌜ StartsDilationWords width height (now (sheet .entry)) side (now (cells .entry)) cap (now (levels .entry))
+        (now (words .entry)) r (now (levels .exit), now (words .exit)) ⌝ }
+{
+    start_on_canvas(
+        run::kinds::DILATION,
+        run::kinds::BACKGROUND,
+        width,
+        height,
+        sheet,
+        side,
+        cells,
+        cap,
+        levels,
+        words,
+    )
+}
+
+// Public: starts the erosion of a cropped sheet; its record goes into `words`. Refusals 2 to 11.
+#[no_mangle]
+pub extern "C" fn wt_start_cropped(
+    width: u64,
+    height: u64,
+    sheet: &[u8],
+    side: u64,
+    cells: &[u8],
+    cap: u64,
+    levels: &mut [u16],
+    words: &mut [u64],
+) -> u32
+    ensures { λ r. ⌜ StartsCroppedWords width height (now (sheet .entry)) side (now (cells .entry)) cap (now (levels .entry))
+        (now (words .entry)) r (now (levels .exit), now (words .exit)) ⌝ }
+{
+    start_on_canvas(
+        run::kinds::EROSION,
+        run::kinds::FOREGROUND,
+        width,
+        height,
+        sheet,
+        side,
+        cells,
+        cap,
+        levels,
+        words,
+    )
 }

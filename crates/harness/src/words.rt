@@ -1,22 +1,25 @@
-// A run's record as the words that C has of it: kind, width, height, cap, side, rows done, and the cells.
+// A run's record as the words that C has of it: kind, width, height, cap, side, rows done, the cells, and the edge rule.
 use run::Record;
 ghost use mathlib.Core.Path.{_≡_};
 ghost use mathlib.Core.Bool.{false};
-ghost use mathlib.Core.List.{_∷_, _++_};
+ghost use mathlib.Core.List.{[], _∷_, _++_};
 ghost use Prim.Native.Nat.{_≤_};
 ghost use lib.ListN.{length, take, drop};
 ghost use Rattle.basics.specs.Bounds.{anyAbove};
-ghost use Rattle.harness.specs.Boundary.{recordNumbers, recordWords, highestByte, wordsOf, recordOf, holdsNoRecord};
+ghost use Rattle.harness.specs.Boundary.{recordNumbers, recordCells, recordWords, highestByte};
+ghost use Rattle.harness.specs.Boundary.{wordsOf, recordOf, holdsNoRecord};
 
 const RECORD_NUMBERS: usize = 6;
 
 const RECORD_CELLS: usize = 49;
 
-pub const RECORD_WORDS: usize = RECORD_NUMBERS + RECORD_CELLS;
+const EDGE_PLACE: usize = RECORD_NUMBERS + RECORD_CELLS;
+
+pub const RECORD_WORDS: usize = EDGE_PLACE + 1;
 
 const HIGHEST_BYTE: u64 = 255;
 
-// Whether a cell is more than a byte.
+// Whether a cell or the edge rule is more than a byte.
 fn any_wide_cell(words: &[u64]) -> bool
     ensures { λ r. ⌜ r ≡ anyAbove highestByte (drop recordNumbers (now (words .entry))) ⌝ }
 {
@@ -30,7 +33,7 @@ fn any_wide_cell(words: &[u64]) -> bool
     false
 }
 
-// Whether no record is held in the words: there are more or fewer, or the kind or a cell is more than a byte.
+// Whether no record is held in the words: there are more or fewer, or the kind, a cell or the edge rule is more than a byte.
 pub fn holds_no_record(words: &[u64]) -> bool
     ensures { λ r. ⌜ r ≡ holdsNoRecord (now (words .entry)) ⌝ }
 {
@@ -58,7 +61,7 @@ fn byte_of(word: u64) -> u8
 
 fn read_cells(words: &[u64]) -> [u8; RECORD_CELLS]
     requires { ⌜ holdsNoRecord (now words) ≡ false ⌝ }
-    ensures { λ r. ⌜ r ≡ drop recordNumbers (now (words .entry)) ⌝ }
+    ensures { λ r. ⌜ r ≡ take recordCells (drop recordNumbers (now (words .entry))) ⌝ }
 {
     let mut cells = [0u8; RECORD_CELLS];
     let mut k = 0;
@@ -77,6 +80,7 @@ pub fn read_record(words: &[u64]) -> Record
 {
     let cells = read_cells(words);
     let kind = byte_of(words[0]);
+    let edge = byte_of(words[EDGE_PLACE]);
     Record {
         kind,
         width: words[1] as usize,
@@ -85,6 +89,7 @@ pub fn read_record(words: &[u64]) -> Record
         side: words[4] as usize,
         rows: words[5] as usize,
         cells,
+        edge,
     }
 }
 
@@ -108,9 +113,10 @@ fn write_numbers(
     words[5] = rows;
 }
 
-fn write_cells(cells: [u8; RECORD_CELLS], words: &mut [u64])
+// The cells, and the edge rule after them.
+fn write_bytes(cells: [u8; RECORD_CELLS], edge: u8, words: &mut [u64])
     requires { ⌜ length (now words) ≡ recordWords ⌝ }
-    ensures { λ _. ⌜ now (words .exit) ≡ take recordNumbers (now (words .entry)) ++ cells ⌝ }
+    ensures { λ _. ⌜ now (words .exit) ≡ take recordNumbers (now (words .entry)) ++ cells ++ edge ∷ [] ⌝ }
 {
     let mut k = 0;
     while k < RECORD_CELLS {
@@ -118,6 +124,8 @@ fn write_cells(cells: [u8; RECORD_CELLS], words: &mut [u64])
         words[RECORD_NUMBERS + k] = word;
         k += 1;
     }
+    let last = word_of(edge);
+    words[EDGE_PLACE] = last;
 }
 
 // The record's words.
@@ -135,5 +143,5 @@ pub fn write_record(run: Record, words: &mut [u64])
         run.rows as u64,
         words,
     );
-    write_cells(cells, words);
+    write_bytes(cells, run.edge, words);
 }

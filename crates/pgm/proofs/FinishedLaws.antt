@@ -3,33 +3,26 @@
 use Prim.Native.Nat.{ℕ, _+_, _*_, _≤_, _<_, max}
 use native.Mathlib.Omega.{arith}
 use mathlib.Core.Path.{_≡_, refl, sym, ap, ap₂, _∙_}
-use mathlib.Core.Bool.{Bool, true, false, not, cond}
+use mathlib.Core.Bool.{Bool, true, false, not}
 use mathlib.Core.Logic.{_≢_}
 use mathlib.Core.List.{List, [], _∷_}
 use lib.Dec.{eqb, ltb}
 use lib.ListN.{length}
 use borrow.Author.Tests.{lt-ltb, le-ltb, eq-eqb, ne-eqb, eqb-true, ltb-false, not-false}
 use Rattle.basics.specs.Bounds.{anyAbove}
-use Rattle.basics.specs.Limits.{longestSide}
 use Rattle.basics.specs.Refusals.{Refusal, first}
 use Rattle.basics.proofs.RefusalLaws.{passed, refuses, accepts, rule-unique}
 use Rattle.text.specs.Writing.{begun}
+use Rattle.row.specs.RowRule.{none}
 use Rattle.run.specs.declared.Record.{Record}
-use Rattle.run.specs.Records.{isErosion, due, foreign, recordBad}
+use Rattle.run.specs.Kinds.{Kind, eroding, dilating, cropping, kindOf, byKind}
+use Rattle.run.specs.Records.{due, foreign, recordBad}
 use Rattle.run.specs.Continuing.{isDone}
 use Rattle.run.proofs.RecordLaws.{Sound, sound, not-bad}
 use Rattle.pgm.specs.PgmText.{pgmText}
-use Rattle.pgm.specs.Writing.{Picture}
+use Rattle.pgm.specs.Writing.{levelEnd, Picture}
 use Rattle.pgm.specs.WritePgm.{maximum, picture, pgmRefusals, WritesPgm}
 use Rattle.pgm.proofs.SizeLaws.{within-small, text-bound}
-
--- the maximum, by the kind
-module _ (r : Record) where
-  pub maximum-erosion : isErosion r ≡ true → (n : ℕ) → n ≡ max (r .width) (r .height) → n ≡ maximum r
-  maximum-erosion k n e = rw k e
-
-  pub maximum-dilation : isErosion r ≡ false → r .cap + 1 ≡ maximum r
-  maximum-dilation k = rw k
 
 module _ (r : Record) (levels out : List ℕ) where
   -- the refusals from each place on
@@ -119,12 +112,13 @@ module _ (r : Record) (levels out : List ℕ) where
   write-pgm-unique = rule-unique
 
 -- a sound record's numbers are small
-pub maximum-small : (r : Record) → foreign r ≡ false → maximum r ≤ longestSide
-maximum-small r a = go (isErosion r) (sound r a)
+pub maximum-small : (r : Record) → foreign r ≡ false → maximum r < levelEnd
+maximum-small r a = go (kindOf r) (sound r a)
   where
-    go : (t : Bool) → Sound r → cond t (max (r .width) (r .height)) (r .cap + 1) ≤ longestSide
-    go true s = let w = s .wide in let h = s .high in omega arith
-    go false s = let c = s .cap-small in omega arith
+    go : (kind : Kind) → Sound r → byKind kind (max (r .width) (r .height)) (r .cap + 1) none < levelEnd
+    go eroding s = let w = s .wide in let h = s .high in omega arith
+    go dilating s = let c = s .cap-small in omega arith
+    go cropping s = omega arith
 
 module _ (r : Record) (levels : List ℕ) (a : recordBad r ≡ false) (size : length levels ≡ r .height * r .width) where
   pub sound-picture : (most all : ℕ) → most ≡ maximum r → all ≡ due r → Picture (r .width) (r .height) most (r .rows) all levels
@@ -148,6 +142,5 @@ module _ (r : Record) (levels : List ℕ) (a : recordBad r ≡ false) (size : le
   -- and so its text is short, where no level is above the maximum
   pub picture-short : anyAbove (maximum r) levels ≡ false → length (picture r levels) ≤ 43 + 6 * (r .height * r .width)
   picture-short b =
-      let l = maximum-small r (not-bad r a .0) in
       text-bound (r .width) (r .height) (maximum r) (r .rows) (due r) levels (sound-picture (maximum r) (due r) refl refl)
-      (within-small (maximum r) (omega arith) levels b)
+      (within-small (maximum r) (maximum-small r (not-bad r a .0)) levels b)

@@ -1,10 +1,11 @@
 -- Of which runs a picture is written. What the collected levels mean bounds them: eroding by the larger side of the frame leads
--- out of it, so no erosion level is above that side; and a dilation level is at most R + 1 by its cap. The rest are the list's
--- refusals, judged one after the other.
+-- out of it, so no erosion level is above that side; a dilation level is at most R + 1 by its cap, and a crop's at most R or
+-- 65,535. The rest are the list's refusals, judged one after the other.
 use Prim.Native.Nat.{ℕ, zero, suc, _+_, _*_, _/_, _%_, _≤_, _<_, max}
 use native.Mathlib.Omega.{arith}
 use mathlib.Core.Path.{_≡_, refl, sym, ap, subst, _∙_}
 use mathlib.Core.Bool.{false, true≢false}
+use mathlib.Core.Logic.{inl, inr}
 use mathlib.Core.List.{List}
 use lib.IntN.{pos}
 use lib.ListN.{length, getD}
@@ -20,15 +21,15 @@ use Rattle.element.specs.Elements.{elementSet}
 use Rattle.element.proofs.Accepted.{Accepted, accepted-origin, accepted-other}
 use Rattle.sheet.specs.Sheets.{pixel, foreground}
 use Rattle.run.specs.declared.Record.{Record}
+use Rattle.run.specs.Kinds.{collectedLevel}
 use Rattle.run.specs.Records.{due}
-use Rattle.run.specs.Starting.{startRecord}
 use Rattle.run.specs.Continuing.{withRows}
-use Rattle.run.specs.Pictures.{frameLevel, collectedLevel, collected}
-use Rattle.run.specs.Series.{erosion, dilation}
-use Rattle.run.specs.Demand2.{finished}
-use Rattle.run.proofs.Starts.{judged, erosion-taken}
+use Rattle.run.specs.Pictures.{frameLevel, collected}
+use Rattle.run.specs.Series.{Started, erosion, dilation, cropped}
+use Rattle.run.specs.Demand2.{finished, RightLevel}
+use Rattle.run.proofs.Starts.{judged, erosion-taken, dilation-taken}
 use Rattle.run.proofs.Started.{started-sound}
-use Rattle.run.proofs.Demand2.{erosion-picture, dilation-picture}
+use Rattle.run.proofs.Demand2.{every-picture}
 use Rattle.pgm.specs.WritePgm.{maximum}
 use Rattle.pgm.specs.Released.{LevelsWithin, PgmUnfinishedRefused, PgmNoneReleased, PgmReleased}
 use Rattle.pgm.proofs.FinishedLaws.{refuse-rows, accept-picture, picture-accepted}
@@ -58,30 +59,33 @@ points-within width height limit levels size h =
     subst (λ i. getD levels i 0 ≤ limit) (entry-of width k)
     (h (k / width) (k % width) (row-below width height k b) (column-below width height k b)))
 
-module _ (kind width height cap side : ℕ) (bytes : List ℕ) (r : Record) (levels : List ℕ)
-    (e : startRecord kind width height cap side bytes ≡ r) where
-  started-length : length (collected r (finished r levels)) ≡ height * width
-  started-length = collected-length r (finished r levels) ∙ sym (ap (λ x. x .height * x .width) e)
-
-  started-within : ((row col : ℕ) → row < height → col < width
-      → getD (collected r (finished r levels)) (row * width + col) 0 ≤ maximum (startRecord kind width height cap side bytes))
-      → anyAbove (maximum r) (collected r (finished r levels)) ≡ false
-  started-within h =
-      ap (λ x. anyAbove (maximum x) (collected r (finished r levels))) (sym e)
-      ∙ points-within width height (maximum (startRecord kind width height cap side bytes)) (collected r (finished r levels))
-      started-length h
-
-pub levels-within : LevelsWithin
-levels-within r levels (erosion width height sheet side bytes lent a) =
+right-within : {r : Record} {levels : List ℕ} (started : Started r levels) (x : Point) (m : ℕ) → RightLevel started x m
+    → m ≤ maximum r
+right-within (erosion width height sheet side bytes lent a) x m level =
     let given = judged width height sheet side bytes
     (erosion-taken width height sheet side bytes lent (sym (a .refusal)) .0) .element in
-    let mean = erosion-picture width height sheet side bytes lent r levels a .0 in
-    started-within 1 width height 0 side bytes r levels (sym (ap (λ t. t .0) (a .accepted refl)))
-    (λ row col p q. level-bound width height sheet side bytes given (at (pos row) (pos col)) _ (mean row col p q))
-levels-within r levels (dilation width height sheet side bytes cap lent a) =
-    let mean = dilation-picture width height sheet side bytes cap lent r levels a .0 in
-    started-within 2 width height cap side bytes r levels (sym (ap (λ t. t .0) (a .accepted refl)))
-    (λ row col p q. let l = mean row col p q .capped in omega arith)
+    let e = ap (λ t. maximum (t .0)) (a .accepted refl) in
+    let l = level-bound width height sheet side bytes given x m level in
+    omega arith
+right-within (dilation width height sheet side bytes cap lent a) x m level =
+    let e = ap (λ t. maximum (t .0)) (a .accepted refl) in
+    let l = level .capped in
+    omega arith
+right-within (cropped width height sheet side bytes cap lent a) x m (inl level) =
+    let e = ap (λ t. maximum (t .0)) (a .accepted refl) in
+    let l = level .0 in
+    let small = dilation-taken width height sheet side bytes cap lent (sym (a .refusal)) .1 in
+    omega arith
+right-within (cropped width height sheet side bytes cap lent a) x m (inr level) =
+    let e = ap (λ t. maximum (t .0)) (a .accepted refl) in
+    let l = level .0 in
+    omega arith
+
+pub levels-within : LevelsWithin
+levels-within r levels started =
+    let mean = every-picture r levels started .collecting in
+    points-within (r .width) (r .height) (maximum r) (collected r (finished r levels)) (collected-length r (finished r levels))
+    (λ row col p q. right-within started (at (pos row) (pos col)) _ (mean row col p q))
 
 -- AN UNFINISHED RUN
 pub pgm-unfinished-refused : PgmUnfinishedRefused

@@ -1,21 +1,23 @@
 -- What writing a finished run's collected levels as plain PGM answers.
 use Prim.Native.Nat.{ℕ, _+_, _*_, max}
 use mathlib.Core.Path.{_≡_}
-use mathlib.Core.Bool.{not, cond}
+use mathlib.Core.Bool.{not}
 use mathlib.Core.List.{List, [], _∷_}
 use lib.Dec.{eqb, ltb}
 use lib.ListN.{length}
 use Rattle.basics.specs.Bounds.{anyAbove}
 use Rattle.basics.specs.Refusals.{Refusal, Answers}
 use Rattle.text.specs.Writing.{begun}
+use Rattle.row.specs.RowRule.{none}
 use Rattle.run.specs.declared.Record.{Record}
-use Rattle.run.specs.Records.{isErosion, due, recordBad}
+use Rattle.run.specs.Kinds.{kindOf, byKind}
+use Rattle.run.specs.Records.{due, recordBad}
 use Rattle.run.specs.Continuing.{isDone}
 use Rattle.pgm.specs.PgmText.{pgmText}
 
--- the larger frame side for an erosion, R + 1 for a dilation
+-- the larger frame side for a plain erosion, R + 1 for a dilation, 65,535 for a cropped sheet's erosion
 abbrev pub maximum : Record → ℕ
-maximum r = cond (isErosion r) (max (r .width) (r .height)) (r .cap + 1)
+maximum r = byKind (kindOf r) (max (r .width) (r .height)) (r .cap + 1) none
 
 abbrev pub picture : Record → List ℕ → List ℕ
 picture r levels = pgmText (r .width) (r .height) (maximum r) (r .rows) (due r) levels

@@ -25,10 +25,9 @@ fn maximum_of(run: Record) -> usize
     requires { ⌜ foreign run ≡ false ⌝ }
     ensures { λ r. ⌜ r ≡ maximum run ⌝ }
 {
-    if run::kinds::is_erosion(run) {
-        return larger(run.width, run.height);
-    }
-    run.cap + 1
+    let side = larger(run.width, run.height);
+    let highest = super::wide(row::NONE);
+    run::kinds::number_by_kind(run, side, run.cap + 1, highest)
 }
 
 fn any_above(limit: usize, levels: &[u16]) -> bool

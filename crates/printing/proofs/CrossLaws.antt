@@ -14,7 +14,6 @@ use Rattle.basics.proofs.RefusalLaws.{first-accepted, accepts}
 use Rattle.element.specs.Elements.{isSide, countSet, elementRefusals}
 use Rattle.sheet.specs.Sheets.{sheetRefusals}
 use Rattle.sheet.proofs.FrameLaws.{frame-sides, sheet-accepted}
-use Rattle.row.specs.RowRule.{none}
 use Rattle.scan.specs.Scan.{scanRows}
 use Rattle.scan.proofs.ScanLaws.{rows-length}
 use Rattle.run.specs.declared.Record.{Record}
@@ -39,7 +38,7 @@ module _ (width height : ℕ) (sheet : List ℕ) (s : SoundSheet width height sh
   run = crossRun width height
 
   abbrev start : List ℕ
-  start = startLevels width height 0 sheet none 0
+  start = startLevels run sheet
 
   -- STARTING
   module _ (lent : List ℕ) (l : length lent ≡ height * width) where
@@ -54,7 +53,7 @@ module _ (width height : ℕ) (sheet : List ℕ) (s : SoundSheet width height sh
         → (r ≡ run) × (after ≡ start)
     start-gives a = let q = a .accepted (a .refusal ∙ start-accepted) in (ap (λ t. t .0) q, ap (λ t. t .1) q)
 
-  pub cross-started : Started run start
+  unfoldable pub cross-started : Started run start
   cross-started = erosion width height sheet 3 cross (replicate (height * width) 0)
       (starts (replicate (height * width) 0) (length-replicate (height * width) 0))
 

@@ -5,7 +5,7 @@ use native.Mathlib.Omega.{arith}
 use mathlib.Core.Path.{_≡_, sym, ap, _∙_}
 use mathlib.Core.List.{List}
 use lib.IntN.{pos}
-use lib.ListN.{getD, replicate, length-replicate}
+use lib.ListN.{getD}
 use Rattle.grid.specs.Points.{at}
 use Rattle.grid.specs.Sets.{_≈_}
 use Rattle.grid.specs.Levels.{IsErosionLevel}
@@ -15,11 +15,10 @@ use Rattle.element.specs.Elements.{elementSet}
 use Rattle.sheet.specs.Sheets.{foreground}
 use Rattle.sheet.specs.Means.{LevelsMean}
 use Rattle.sheet.proofs.SamePixelsLaws.{same-set}
-use Rattle.row.specs.RowRule.{none}
 use Rattle.run.specs.Records.{due}
 use Rattle.run.specs.Starting.{startLevels}
 use Rattle.run.specs.Demand2.{finished}
-use Rattle.run.proofs.Demand2.{erosion-picture}
+use Rattle.run.proofs.Demand2.{every-picture}
 use Rattle.pbm.specs.Pbm.{cleared}
 use Rattle.pbm.proofs.PackingLaws.{pixel-cleared}
 use Rattle.pgm.specs.PgmText.{pgmText}
@@ -27,7 +26,7 @@ use Rattle.pgm.proofs.Released.{collected-length}
 use Rattle.printing.specs.Printing.{cross, crossRun, crossLevels, soundText}
 use Rattle.printing.specs.Steps.{SoundSheet}
 use Rattle.printing.specs.Meaning.{PrintedLevels}
-use Rattle.printing.proofs.CrossLaws.{starts}
+use Rattle.printing.proofs.CrossLaws.{cross-started}
 use Rattle.printing.proofs.PageLaws.{few}
 use Rattle.printing.proofs.InputLaws.{file-sound, sheet-sound}
 
@@ -41,10 +40,10 @@ cleared-same width height raster =
 levels-mean : (width height : ℕ) (sheet : List ℕ) → SoundSheet width height sheet
     → LevelsMean width height (IsErosionLevel (foreground width height sheet) (elementSet 3 cross))
     (crossLevels width height sheet)
+unfolding cross-started
 levels-mean width height sheet s =
-    let lent : List ℕ = replicate (height * width) 0 in
-    erosion-picture width height sheet 3 cross lent (crossRun width height) (startLevels width height 0 sheet none 0)
-    (starts width height sheet s lent (length-replicate (height * width) 0)) .0
+    every-picture (crossRun width height) (startLevels (crossRun width height) sheet) (cross-started width height sheet s)
+    .collecting
 
 -- THE THEOREM
 pub printed-levels : PrintedLevels
@@ -54,7 +53,7 @@ printed-levels input width height raster small e good l =
     let all-rows : due (crossRun width height) ≡ height + height = omega arith in
     let s = sheet-sound input good width height raster e in (
       levels,
-      collected-length (crossRun width height) (finished (crossRun width height) (startLevels width height 0 sheet none 0)),
+      collected-length (crossRun width height) (finished (crossRun width height) (startLevels (crossRun width height) sheet)),
       sym (file-sound input small good) ∙ ap soundText e ∙ sym (few width height sheet l)
           ∙ ap (λ n. pgmText width height (max width height) n n levels) all-rows,
       (λ row col a b. answer-same (cleared-same width height raster) (

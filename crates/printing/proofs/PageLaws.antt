@@ -11,7 +11,6 @@ use borrow.Author.Tests.{lt-ltb, le-ltb}
 use Rattle.run.proofs.Started.{started-sound}
 use Rattle.basics.specs.Limits.{longestSide}
 use Rattle.sheet.proofs.FrameLaws.{frame-sides, sheet-accepted}
-use Rattle.row.specs.RowRule.{none}
 use Rattle.text.specs.Writing.{begun}
 use Rattle.text.proofs.WroteLaws.{length-begun, take-begun}
 use Rattle.run.specs.declared.Record.{Record}
@@ -43,7 +42,7 @@ module _ (width height : ℕ) (sheet : List ℕ) where
   whole = withRows (crossRun width height) (due (crossRun width height))
 
   abbrev start : List ℕ
-  start = startLevels width height 0 sheet none 0
+  start = startLevels (crossRun width height) sheet
 
   abbrev levels : List ℕ
   levels = crossLevels width height sheet

@@ -8,7 +8,7 @@ use Rattle.element.specs.Cells.{sevenBySeven, isHeld, centredCell, centred, fla
 use Rattle.sheet.specs.Sheets.{pixel, packedByte, packed, isSideOut}
 use Rattle.row.specs.RowRule.{cellNumber, within, levelAt, partner, least, firstMet, lowered, pointRule, place, columns, rowRule}
 use Rattle.scan.specs.Scan.{scanRow, scanRows}
-use Rattle.run.specs.Starting.{inked, startLevels}
+use Rattle.run.specs.Starting.{framed, startArea}
 use Rattle.run.specs.Pictures.{collected}
 use Rattle.pbm.specs.Header.{isWhite, run, field, beginsP4, header}
 use Rattle.pbm.specs.Pbm.{cleared}
@@ -22,7 +22,7 @@ full-sheet : printed (80 ∷ 52 ∷ 10 ∷ 51 ∷ 32 ∷ 51 ∷ 10 ∷ 224 ∷ 2
     (49 ∷ 32 ∷ 49 ∷ 32 ∷ 49 ∷ 10 ∷ [])
 unfolding printed sheetText isDigit valueFrom digitRun digits digitsIn isWhite run field beginsP4 header isSideOut cleared
     table raster pixel packedByte packed sevenBySeven isHeld centredCell centred flat unflat cellNumber within levelAt partner
-    least firstMet lowered pointRule place columns rowRule scanRow scanRows inked startLevels collected pgmText pgmHeader
+    least firstMet lowered pointRule place columns rowRule scanRow scanRows framed startArea collected pgmText pgmHeader
     levelsText frameRow levelRow parting columnAfter stays
 full-sheet = refl
 

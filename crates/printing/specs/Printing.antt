@@ -6,8 +6,8 @@ use lib.Dec.{eqb, leb, ltb}
 use lib.ListN.{length}
 use Rattle.basics.specs.Refusals.{Refusal, first}
 use Rattle.decimal.specs.Numbers.{digits}
-use Rattle.row.specs.RowRule.{none}
 use Rattle.run.specs.declared.Record.{Record}
+use Rattle.run.specs.Kinds.{eroding}
 use Rattle.run.specs.Records.{due}
 use Rattle.run.specs.Starting.{startRecord, startLevels}
 use Rattle.run.specs.Continuing.{withRows}
@@ -37,11 +37,11 @@ cross = 0 ∷ 1 ∷ 0 ∷ 1 ∷ 1 ∷ 1 ∷ 0 ∷ 1 ∷ 0 ∷ []
 
 -- the run of a sheet, and the picture of its finished levels
 abbrev pub crossRun : ℕ → ℕ → Record
-crossRun width height = startRecord 1 width height 0 3 cross
+crossRun width height = startRecord eroding width height 0 3 cross
 
 abbrev pub crossLevels : ℕ → ℕ → List ℕ → List ℕ
 crossLevels width height sheet =
-    collected (crossRun width height) (finished (crossRun width height) (startLevels width height 0 sheet none 0))
+    collected (crossRun width height) (finished (crossRun width height) (startLevels (crossRun width height) sheet))
 
 unfoldable pub sheetText : ℕ → ℕ → List ℕ → List ℕ
 sheetText width height sheet =

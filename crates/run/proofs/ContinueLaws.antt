@@ -13,7 +13,8 @@ use Rattle.basics.proofs.RefusalLaws.{refuses, accepts, rule-unique}
 use Rattle.scan.specs.Scan.{area, Lent, scanRows, rowsLowered}
 use Rattle.run.specs.declared.Record.{Record}
 use Rattle.run.specs.declared.continuing.Continued.{Continued}
-use Rattle.run.specs.Records.{beyondOf, cellsOf, areaWidth, areaHeight, due, areaOf, recordBad, noRecord}
+use Rattle.run.specs.Kinds.{beyondOf, cellsOf}
+use Rattle.run.specs.Records.{areaWidth, areaHeight, due, areaOf, recordBad, noRecord}
 use Rattle.run.specs.Continuing.{State, levelsWrong, continueRefusals, worked, withRows, isDone, loweredBy, Continues}
 use Rattle.run.proofs.RecordLaws.{Sound}
 

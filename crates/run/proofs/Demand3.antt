@@ -21,7 +21,8 @@ use Rattle.scan.proofs.ScanLaws.{rows-add, rows-length, rows-none, lowered-add}
 use Rattle.run.specs.declared.Record.{Record}
 use Rattle.run.specs.Records.{areaWidth, areaHeight, areaOf, due, recordBad, noRecord}
 use Rattle.run.specs.Continuing.{State, levelsWrong, withRows, continued, loweredBy, continueRefusals, Continues}
-use Rattle.run.specs.Pictures.{sizeLimit, collectRefusals, thresholdRefusals}
+use Rattle.run.specs.Kinds.{sizeLimit}
+use Rattle.run.specs.Pictures.{collectRefusals, thresholdRefusals}
 use Rattle.run.specs.Provisional.{provisionalRefusals}
 use Rattle.run.specs.Series.{Started, Slice, Allowed, IsSeries, atStart, next, after, allowed, counted, unbroken, rowsWorked}
 use Rattle.run.specs.Series.{SeriesExist, CutsDoNotShow, CountsAddUp, AcceptedExactly, NoneReleased, UnfinishedRefused}

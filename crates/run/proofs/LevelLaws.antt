@@ -1,14 +1,18 @@
--- What the tests on one number decide: a pixel or a kind that is 1, a level within a limit, a level that is held.
-use Prim.Native.Nat.{ℕ, suc, _≤_, _<_}
+-- What the tests on one number decide: a pixel that is 1, a level as it is read, a level that is held.
+use Prim.Native.Nat.{ℕ, suc, _+_, _-_, _≤_, _<_, min}
+use native.Mathlib.Decide.{decLt}
+use native.Mathlib.Nat.{sub-zero}
 use native.Mathlib.Omega.{arith}
-use mathlib.Core.Path.{_≡_, refl}
+use mathlib.Core.Path.{_≡_, refl, sym, _∙_}
 use mathlib.Core.Bool.{Bool, true, false, cond, _&&_, _||_}
 use mathlib.Core.Logic.{_≢_, _↔_}
 use lib.Dec.{eqb, leb, ltb}
-use borrow.Author.Tests.{lt-ltb, le-ltb, le-leb, lt-leb, leb-true, eq-eqb, ne-eqb}
+use borrow.Author.Tests.{lt-ltb, le-ltb, le-leb, lt-leb, leb-true, leb-false, eq-eqb, ne-eqb}
 use Rattle.basics.proofs.BoundLaws.{both}
 use Rattle.row.specs.RowRule.{none}
-use Rattle.run.specs.Patches.{limitedTo, heldBetween}
+use Rattle.run.specs.declared.kinds.Reading.{Reading}
+use Rattle.run.specs.Kinds.{croppedLevel}
+use Rattle.run.specs.Patches.{readAs, heldBetween}
 
 module _ (n a b : ℕ) where
   pub where-one : n ≡ 1 → a ≡ cond (eqb n 1) a b
@@ -17,25 +21,19 @@ module _ (n a b : ℕ) where
   pub where-other : n ≢ 1 → b ≡ cond (eqb n 1) a b
   where-other m = rw (ne-eqb n 1 m)
 
-module _ (t : Bool) (a b : ℕ) where
-  pub where-true : t ≡ true → a ≡ cond t a b
-  where-true e = rw e
+-- a level as it is read
+module _ (reading : Reading) (level : ℕ) where
+  pub read-above : level ≤ none → reading .limit < level → reading .other ≡ readAs reading level
+  unfolding readAs
+  read-above small l = rw (ne-eqb (reading .limit) none (λ e. omega arith), lt-leb level (reading .limit) l)
 
-  pub where-false : t ≡ false → b ≡ cond t a b
-  where-false e = rw e
-
-module _ (limit level : ℕ) where
-  pub limited-kept : level ≤ limit → level ≡ limitedTo limit level
-  unfolding limitedTo
-  limited-kept l = rw (le-leb level limit l) (go (eqb limit none))
+  pub read-within : level ≤ reading .limit → level - reading .less ≡ readAs reading level
+  unfolding readAs
+  read-within l = rw (le-leb level (reading .limit) l) (go (eqb (reading .limit) none))
     where
-      go : (t : Bool) → level ≡ cond (t || true) level 0
+      go : (t : Bool) → level - reading .less ≡ cond (t || true) (level - reading .less) (reading .other)
       go true = refl
       go false = refl
-
-  pub limited-cut : level ≤ none → limit < level → 0 ≡ limitedTo limit level
-  unfolding limitedTo
-  limited-cut small l = rw (ne-eqb limit none (λ e. omega arith), lt-leb level limit l)
 
 -- a level from 1 to n + 1, as a test
 pub range-iff : (n level : ℕ) → ((0 < level) × (level ≤ suc n)) ↔ (leb 1 level && leb level (suc n) ≡ true)
@@ -44,9 +42,23 @@ range-iff n level = (
   (λ h. let (some, most) = both (leb 1 level) (leb level (suc n)) h in (leb-true 1 level some, leb-true level (suc n) most)),
 )
 
-pub no-limit : (level : ℕ) → limitedTo none level ≡ level
-unfolding limitedTo
-no-limit level = refl
+-- a crop's level is collected above n where it is above n + 1; sizes above the cap hold what the cap holds
+pub cropped-above : (R n level : ℕ) → R ≤ 2047 → n ≤ 4096 → ltb (min n R + 1) level ≡ ltb n (croppedLevel R level)
+cropped-above R n level small l = go (leb level (suc R)) refl
+  where
+    within : level ≤ suc R → Dec (min n R + 1 < level) → ltb (min n R + 1) level ≡ ltb n (level - 1)
+    within m (yes a) = lt-ltb (min n R + 1) level a ∙ sym (lt-ltb n (level - 1) (omega arith))
+    within m (no a) = le-ltb (min n R + 1) level (omega arith) ∙ sym (le-ltb n (level - 1) (omega arith))
+
+    go : (t : Bool) → leb level (suc R) ≡ t → ltb (min n R + 1) level ≡ ltb n (cond t (level - 1) none)
+    go true e = within (leb-true level (suc R) e) (decLt (min n R + 1) level)
+    go false e =
+        let m = leb-false level (suc R) e in
+        lt-ltb (min n R + 1) level (omega arith) ∙ sym (lt-ltb n none (omega arith))
+
+pub read-same : (other level : ℕ) → readAs (record { limit = none; less = 0; other = other }) level ≡ level
+unfolding readAs
+read-same other level = sub-zero level
 
 module _ (low high level : ℕ) where
   pub held-low : level ≤ low → 0 ≡ heldBetween low high level

@@ -3,6 +3,7 @@ pub mod PatchLaws
 pub mod LevelLaws
 pub mod PackLaws
 -- records
+pub mod KindLaws
 pub mod RecordLaws
 pub mod ScanCells
 pub mod StartRecords

@@ -9,8 +9,8 @@ use lib.ListN.{getD, replicate, getD-replicate}
 use Rattle.sheet.specs.Sheets.{packedByte}
 use Rattle.sheet.proofs.ByteLaws.{packed-as, front, front-fits}
 use Rattle.row.specs.RowRule.{none}
-use Rattle.run.specs.Patches.{Patch, limitedTo, heldBetween}
-use Rattle.run.proofs.LevelLaws.{no-limit, held-low, held-binary}
+use Rattle.run.specs.Patches.{Patch, readAs, heldBetween}
+use Rattle.run.proofs.LevelLaws.{read-same, held-low, held-binary}
 
 module _ (low high : ℕ) where
   -- 1 or 0 for the levels from a place on, where the bounds hold them
@@ -32,11 +32,12 @@ module _ (low high : ℕ) where
 
     -- the byte in which it ends: the levels that are left stand before zeros
     module _ {before eight : List ℕ}
-        (P : Patch 0 (width % 8) (λ i. limitedTo none (getD levels (from + width / 8 * 8 + i) 0)) before eight)
+        (P : Patch 0 (width % 8)
+        (λ i. readAs (record { limit = none; less = 0; other = 0 }) (getD levels (from + width / 8 * 8 + i) 0)) before eight)
         (zeros : before ≡ replicate 8 0) where
       left : (i : ℕ) → i < width % 8 → heldFrom eight 0 i ≡ heldFrom levels from (width / 8 * 8 + i)
       left i l =
-          ap (heldBetween low high) (P .inside i l ∙ no-limit (getD levels (from + width / 8 * 8 + i) 0)
+          ap (heldBetween low high) (P .inside i l ∙ read-same 0 (getD levels (from + width / 8 * 8 + i) 0)
           ∙ ap (λ j. getD levels j 0) (add-assoc from (width / 8 * 8) i))
 
       padding : (i : ℕ) → i < 8 → width % 8 ≤ i → heldFrom eight 0 i ≡ 0

@@ -1,7 +1,8 @@
 -- The answers of collecting, thresholding and a look at a run, what their buffers hold, and that no second outcome meets their
 -- contracts. All judge the record, the levels and the room, and the first two the rows done; what the code copies or packs
 -- within limits is what the definitions say of each kind.
-use Prim.Native.Nat.{ℕ, suc, _+_, _*_, _≤_, _<_}
+use Prim.Native.Nat.{ℕ, suc, _+_, _-_, _*_, _≤_, _<_, min}
+use native.Mathlib.Nat.{sub-zero}
 use native.Mathlib.Numerals.{add-one}
 use native.Mathlib.Omega.{arith}
 use mathlib.Core.Path.{_≡_, refl, sym, ap, _∙_, fun-ext}
@@ -17,11 +18,14 @@ use Rattle.basics.proofs.RefusalLaws.{numbered, judged-first, judged-next, pass
 use Rattle.sheet.specs.Sheets.{rowBytes, packed}
 use Rattle.row.specs.RowRule.{none}
 use Rattle.run.specs.declared.Record.{Record}
-use Rattle.run.specs.Records.{isErosion, margin, recordBad}
+use Rattle.run.specs.declared.kinds.Reading.{Reading}
+use Rattle.run.specs.Kinds.{Kind, eroding, dilating, cropping, kindOf, byKind, sizeLimit, croppedLevel, collectedLevel, isHeldAt}
+use Rattle.run.specs.Records.{margin, recordBad}
 use Rattle.run.specs.Continuing.{levelsWrong, isDone}
-use Rattle.run.specs.Pictures.{collectedLevel, collected, Collects, isHeldAt, thresholded, sizeLimit, Thresholds}
+use Rattle.run.specs.Pictures.{collected, Collects, thresholded, Thresholds}
 use Rattle.run.specs.Provisional.{viewRefusals, provisionalRefusals, ShowsProvisional}
-use Rattle.run.specs.Patches.{Canvas, levelIn, limitedTo, heldBetween}
+use Rattle.run.specs.Patches.{Canvas, levelIn, readAs, heldBetween, readingOf, lowOf, highOf}
+use Rattle.run.proofs.LevelLaws.{cropped-above}
 use Rattle.run.proofs.RecordLaws.{Sound, sound, not-bad}
 
 -- what is known of a record that is not refused
@@ -36,35 +40,40 @@ module _ {r : Record} (s : Sound r) where
 
   -- its sizes are small
   pub size-small : (n : ℕ) → n ≤ sizeLimit r → n ≤ 4096
-  size-small n l = go (isErosion r) l
+  size-small n l = go (kindOf r) l
     where
-      go : (t : Bool) → n ≤ cond t 4096 (r .cap) → n ≤ 4096
-      go true l = l
-      go false l = let k = s .cap-small in omega arith
+      go : (kind : Kind) → n ≤ byKind kind 4096 (r .cap) (r .cap) → n ≤ 4096
+      go eroding l = l
+      go dilating l = let k = s .cap-small in omega arith
+      go cropping l = let k = s .cap-small in omega arith
 
-  -- a level within the limit is the level collected
-  collected-level : (limit : ℕ) → limit ≡ cond (isErosion r) none (r .cap + 1) → (level : ℕ)
-      → limitedTo limit level ≡ collectedLevel r level
-  unfolding limitedTo
-  collected-level limit e level = rw e (go (isErosion r))
+  -- a level as it is read is the level collected
+  collected-level : (level : ℕ) → readAs (readingOf r) level ≡ collectedLevel r level
+  unfolding readAs
+  collected-level level = go (kindOf r)
     where
-      go : (t : Bool) → cond (eqb (cond t none (r .cap + 1)) none || leb level (cond t none (r .cap + 1))) level 0
-          ≡ cond t level (cond (leb level (suc (r .cap))) level 0)
-      go true = refl
-      go false = let k = s .cap-small in rw (ne-eqb (r .cap + 1) none (λ z. omega arith), add-one (r .cap))
+      limited : eqb (r .cap + 1) none ≡ false
+      limited = let k = s .cap-small in ne-eqb (r .cap + 1) none (λ z. omega arith)
 
-  pub is-collected : (levels : List ℕ) (m : ℕ) → m ≡ margin r → (limit : ℕ) → limit ≡ cond (isErosion r) none (r .cap + 1)
-      → raster (r .width) (r .height) (λ row col. limitedTo limit (levelIn (r .width) m levels row col)) ≡ collected r levels
+      go : (kind : Kind) →
+          let limit = byKind kind none (r .cap + 1) (r .cap + 1) in
+          cond (eqb limit none || leb level limit) (level - byKind kind 0 0 1) (byKind kind 0 0 none)
+          ≡ byKind kind level (cond (leb level (suc (r .cap))) level 0) (cond (leb level (suc (r .cap))) (level - 1) none)
+      go eroding = sub-zero level
+      go dilating = rw (limited, add-one (r .cap), sub-zero level)
+      go cropping = rw (limited, add-one (r .cap))
+
+  pub is-collected : (levels : List ℕ) (m : ℕ) → m ≡ margin r → (reading : Reading) → reading ≡ readingOf r
+      → raster (r .width) (r .height) (λ row col. readAs reading (levelIn (r .width) m levels row col)) ≡ collected r levels
   unfolding collected
-  is-collected levels m q limit e =
-      rw q (ap (λ f. raster (r .width) (r .height) f)
-      (fun-ext (λ row. fun-ext (λ col. collected-level limit e (levelIn (r .width) (margin r) levels row col)))))
+  is-collected levels m q reading e =
+      rw (q, e) (ap (λ f. raster (r .width) (r .height) f)
+      (fun-ext (λ row. fun-ext (λ col. collected-level (levelIn (r .width) (margin r) levels row col)))))
 
   -- a level between the bounds is a level held
-  pub held-level : (n : ℕ) → n ≤ 4096 → (low high : ℕ) → low ≡ cond (isErosion r) n 0 → high ≡ cond (isErosion r) none (n + 1)
-      → (level : ℕ) → heldBetween low high level ≡ cond (isHeldAt r n level) 1 0
+  pub held-level : (n : ℕ) → n ≤ 4096 → (level : ℕ) → heldBetween (lowOf r n) (highOf r n) level ≡ cond (isHeldAt r n level) 1 0
   unfolding heldBetween
-  held-level n l low high a b level = rw (a, b) (go (isErosion r))
+  held-level n l level = go (kindOf r)
     where
       swap : (x y : Bool) → _≡_ {A = ℕ} (cond (x && y) 1 0) (cond (y && x) 1 0)
       swap true true = refl
@@ -72,20 +81,22 @@ module _ {r : Record} (s : Sound r) where
       swap false true = refl
       swap false false = refl
 
-      go : (t : Bool) → _≡_ {A = ℕ}
-          (cond ((eqb (cond t none (n + 1)) none || leb level (cond t none (n + 1))) && ltb (cond t n 0) level) 1 0)
-          (cond (cond t (ltb n level) (leb 1 level && leb level (suc n))) 1 0)
-      go true = refl
-      go false = rw (ne-eqb (n + 1) none (λ z. omega arith), add-one n) (swap (leb level (suc n)) (leb 1 level))
+      go : (kind : Kind) →
+          let high = byKind kind none (n + 1) none in
+          _≡_ {A = ℕ} (cond ((eqb high none || leb level high) && ltb (byKind kind n 0 (min n (r .cap) + 1)) level) 1 0)
+          (cond (byKind kind (ltb n level) (leb 1 level && leb level (suc n)) (ltb n (croppedLevel (r .cap) level))) 1 0)
+      go eroding = refl
+      go dilating = rw (ne-eqb (n + 1) none (λ z. omega arith), add-one n) (swap (leb level (suc n)) (leb 1 level))
+      go cropping = ap (λ t. cond t 1 0) (cropped-above (r .cap) n level (s .cap-small) l)
 
   pub is-thresholded : (levels : List ℕ) (n : ℕ) → n ≤ 4096 → (m : ℕ) → m ≡ margin r → (low high : ℕ)
-      → low ≡ cond (isErosion r) n 0 → high ≡ cond (isErosion r) none (n + 1)
+      → low ≡ lowOf r n → high ≡ highOf r n
       → packed (r .width) (r .height) (λ row col. heldBetween low high (levelIn (r .width) m levels row col))
       ≡ thresholded r levels n
   unfolding thresholded
   is-thresholded levels n l m q low high a b =
-      rw q (ap (λ f. packed (r .width) (r .height) f)
-      (fun-ext (λ row. fun-ext (λ col. held-level n l low high a b (levelIn (r .width) (margin r) levels row col)))))
+      rw (q, a, b) (ap (λ f. packed (r .width) (r .height) f)
+      (fun-ext (λ row. fun-ext (λ col. held-level n l (levelIn (r .width) (margin r) levels row col)))))
 
 -- the judge of levels read at a size: each answer from the tests that led to it
 module _ (r : Record) (levels : List ℕ) (n room wanted : ℕ) where

@@ -4,8 +4,9 @@ use mathlib.Core.Path.{_≡_, subst}
 use mathlib.Core.List.{List}
 use lib.ListN.{length, getD}
 use Rattle.sheet.specs.Sheets.{rowBytes, packedByte, packed}
+use Rattle.run.specs.declared.kinds.Reading.{Reading}
 use Rattle.run.specs.Records.{canvasSide}
-use Rattle.run.specs.Patches.{Patch, levelIn, limitedTo, heldBetween}
+use Rattle.run.specs.Patches.{Patch, levelIn, readAs, heldBetween}
 use Rattle.run.proofs.PatchLaws.{Rows, rows-turn, rows-all, row-end, from-margin}
 
 -- a row of the packed sheet is in the output
@@ -15,15 +16,15 @@ bytes-room width height row bytes e l = rw e (row-end (rowBytes width) height ro
 
 module _ (width margin : ℕ) (levels : List ℕ) where
   -- the collected levels, by row and column
-  abbrev pub copiedLevel : ℕ → ℕ → ℕ → ℕ
-  copiedLevel limit row col = limitedTo limit (levelIn width margin levels row col)
+  abbrev pub copiedLevel : Reading → ℕ → ℕ → ℕ
+  copiedLevel reading row col = readAs reading (levelIn width margin levels row col)
 
-  pub copied-row : (limit : ℕ) {row : ℕ} {out after last : List ℕ} → Rows width (copiedLevel limit) row out after
+  pub copied-row : (reading : Reading) {row : ℕ} {out after last : List ℕ} → Rows width (copiedLevel reading) row out after
       → Patch (row * width) width
-      (λ i. limitedTo limit (getD levels ((row + margin) * canvasSide width margin + margin + i) 0)) after last
-      → Rows width (copiedLevel limit) (row + 1) out last
-  copied-row limit {row} {out} {after} {last} P Q =
-      rows-turn P (subst (λ (f : ℕ → ℕ). Patch (row * width) width (λ i. limitedTo limit (f i)) after last)
+      (λ i. readAs reading (getD levels ((row + margin) * canvasSide width margin + margin + i) 0)) after last
+      → Rows width (copiedLevel reading) (row + 1) out last
+  copied-row reading {row} {out} {after} {last} P Q =
+      rows-turn P (subst (λ (f : ℕ → ℕ). Patch (row * width) width (λ i. readAs reading (f i)) after last)
       (from-margin levels ((row + margin) * canvasSide width margin) margin) Q)
 
   -- the bytes of the packed sheet, by row and place

@@ -1,11 +1,11 @@
 -- What the tests on a record decide, and what a sound record is: everything that the code and the theorems need of it.
 use Prim.Native.Nat.{_*_, ℕ, _+_, _-_, _/_, _%_, _≤_, _<_}
-use native.Mathlib.Nat.{mul-le-mul, zero-mul}
+use native.Mathlib.Nat.{mul-le-mul}
 use native.Mathlib.Numerals.{add-one}
 use native.Mathlib.Omega.{arith}
-use mathlib.Core.Path.{_≡_, refl, ap, _∙_}
+use mathlib.Core.Path.{_≡_, refl}
 use mathlib.Core.Bool.{Bool, true, false, not, cond, _||_, true≢false}
-use mathlib.Core.Logic.{_≢_, _⊎_, inl, inr}
+use mathlib.Core.Logic.{_≢_}
 use mathlib.Core.List.{List, _∷_}
 use lib.Dec.{eqb, ltb}
 use lib.ListN.{length, getD, drop, drop-of-length-le}
@@ -21,9 +21,10 @@ use Rattle.element.proofs.ElementLaws.{side-bounds}
 use Rattle.sheet.specs.Sheets.{isSideOut}
 use Rattle.sheet.proofs.FrameLaws.{side-in}
 use Rattle.run.specs.declared.Record.{Record}
-use Rattle.run.specs.Records.{marginOf, margin, areaWidth, areaHeight, due, outside, anyOutside, elementForeign, capForeign}
-use Rattle.run.specs.Records.{isErosion, dilationKind}
-use Rattle.run.specs.Records.{foreign, recordBad}
+use Rattle.run.specs.Kinds.{eroding, dilating, cropping, byKind, erosionKind, dilationKind, backgroundBeyond, foregroundBeyond}
+use Rattle.run.specs.Records.{marginOf, margin, areaWidth, areaHeight, due, outside, anyOutside, elementForeign}
+use Rattle.run.specs.Records.{kindForeign, capForeign, foreign, recordBad}
+use Rattle.run.proofs.KindLaws.{of-erosion, of-cropped}
 
 -- places of the seven
 pub held-before : (side p : ℕ) → p < 3 - reach side → false ≡ isHeld side p
@@ -105,37 +106,38 @@ taken-side side cells e = go (isSide side) refl e
 pub margin-small : (cap side : ℕ) → isSide side ≡ true → cap ≤ 2047 → marginOf cap side ≤ 6141
 margin-small cap side e l = mul-le-mul l (let b = side-bounds side e in let h : reach side ≤ 3 = omega arith in h)
 
--- the answers on a kind and a cap
+-- the answers on a kind with its edge rule, and on a cap
 module _ (r : Record) where
-  pub cap-erosion : isErosion r ≡ true → not (eqb (r .cap) 0) ≡ capForeign r
+  module _ (k : r .kind ≡ erosionKind) where
+    pub kind-plain : r .edge ≡ backgroundBeyond → not (eqb (r .cap) 0) ≡ kindForeign r
+    unfolding kindForeign
+    kind-plain = of-erosion r _ _ _ k
+
+    pub kind-cropped : r .edge ≢ backgroundBeyond → not (eqb (r .edge) foregroundBeyond) ≡ kindForeign r
+    unfolding kindForeign
+    kind-cropped = of-cropped r _ _ _ k
+
+  module _ (n : r .kind ≢ erosionKind) where
+    pub kind-unknown : r .kind ≢ dilationKind → true ≡ kindForeign r
+    unfolding kindForeign
+    kind-unknown m = rw (ne-eqb (r .kind) erosionKind n, ne-eqb (r .kind) dilationKind m)
+
+    pub kind-dilation : r .kind ≡ dilationKind → not (eqb (r .edge) backgroundBeyond) ≡ kindForeign r
+    unfolding kindForeign
+    kind-dilation k = rw (ne-eqb (r .kind) erosionKind n, eq-eqb (r .kind) dilationKind k)
+
+  pub cap-large : highestCap < r .cap → true ≡ capForeign r
   unfolding capForeign
-  cap-erosion e = rw e
+  cap-large l = rw (lt-ltb highestCap (r .cap) l)
 
-  module _ (n : isErosion r ≡ false) where
-    pub cap-kind : r .kind ≢ dilationKind → true ≡ capForeign r
+  module _ (l : r .cap ≤ highestCap) (m : ℕ) (q : m ≡ margin r) where
+    pub cap-width : longestSide < r .width + (m + m) → true ≡ capForeign r
     unfolding capForeign
-    cap-kind m = rw (n, ne-eqb (r .kind) dilationKind m)
+    cap-width w = rw (le-ltb highestCap (r .cap) l, lt-ltb longestSide (areaWidth r) (rw q at w))
 
-    module _ (e : r .kind ≡ dilationKind) where
-      pub cap-large : highestCap < r .cap → true ≡ capForeign r
-      unfolding capForeign
-      cap-large l = rw (n, eq-eqb (r .kind) dilationKind e, lt-ltb highestCap (r .cap) l)
-
-      module _ (l : r .cap ≤ highestCap) (m : ℕ) (q : m ≡ margin r) where
-        pub cap-width : longestSide < r .width + (m + m) → true ≡ capForeign r
-        unfolding capForeign
-        cap-width w =
-            rw (n, eq-eqb (r .kind) dilationKind e, le-ltb highestCap (r .cap) l, lt-ltb longestSide (areaWidth r) (rw q at w))
-
-        pub cap-height : r .width + (m + m) ≤ longestSide → ltb longestSide (r .height + (m + m)) ≡ capForeign r
-        unfolding capForeign
-        cap-height w = rw (
-          n,
-          eq-eqb (r .kind) dilationKind e,
-          le-ltb highestCap (r .cap) l,
-          le-ltb longestSide (areaWidth r) (rw q at w),
-          q,
-        )
+    pub cap-height : r .width + (m + m) ≤ longestSide → ltb longestSide (r .height + (m + m)) ≡ capForeign r
+    unfolding capForeign
+    cap-height w = rw (le-ltb highestCap (r .cap) l, le-ltb longestSide (areaWidth r) (rw q at w), q)
 
   -- and on the whole
   pub foreign-width : isSideOut (r .width) ≡ true → true ≡ foreign r
@@ -152,9 +154,14 @@ module _ (r : Record) where
       unfolding foreign
       foreign-element c = rw (a, b, c)
 
-      pub foreign-cap : elementForeign (r .side) (r .cells) ≡ false → (t : Bool) → t ≡ capForeign r → t ≡ foreign r
-      unfolding foreign
-      foreign-cap c t e = rw (a, b, c) e
+      module _ (c : elementForeign (r .side) (r .cells) ≡ false) where
+        pub foreign-kind : kindForeign r ≡ true → true ≡ foreign r
+        unfolding foreign
+        foreign-kind d = rw (a, b, c, d)
+
+        pub foreign-cap : kindForeign r ≡ false → (t : Bool) → t ≡ capForeign r → t ≡ foreign r
+        unfolding foreign
+        foreign-cap d t e = rw (a, b, c, d) e
 
   pub bad-foreign : foreign r ≡ true → true ≡ recordBad r
   unfolding recordBad
@@ -164,7 +171,12 @@ module _ (r : Record) where
   unfolding recordBad
   bad-rows a n e = rw (a, e)
 
--- WHAT A SOUND RECORD IS
+-- WHAT A SOUND RECORD IS: of one of the three kinds, and ..
+pub data IsOfKind (r : Record) : Type 0 where
+  plain : r .kind ≡ erosionKind → r .edge ≡ backgroundBeyond → r .cap ≡ 0 → IsOfKind r
+  dilates : r .kind ≡ dilationKind → r .edge ≡ backgroundBeyond → IsOfKind r
+  crops : r .kind ≡ erosionKind → r .edge ≡ foregroundBeyond → IsOfKind r
+
 pub record Sound (r : Record) : Type 0 where
   pub wide : (1 ≤ r .width) × (r .width ≤ 4096)
   pub high : (1 ≤ r .height) × (r .height ≤ 4096)
@@ -173,39 +185,37 @@ pub record Sound (r : Record) : Type 0 where
   pub square : anyOutside (r .side) (r .cells) 0 ≡ false
   pub centre : getD (r .cells) 24 0 ≢ 0
   pub others : countSet (r .cells) ≢ 1
-  pub kind-is : ((r .kind ≡ 1) × (r .cap ≡ 0)) ⊎ (r .kind ≡ 2)
+  pub kind-is : IsOfKind r
   pub cap-small : r .cap ≤ 2047
   pub area-wide : areaWidth r ≤ 4096
   pub area-high : areaHeight r ≤ 4096
 
--- an erosion's cap is 0, and so is its margin; a dilation's canvas is small
-sound-cap : (r : Record) → capForeign r ≡ false → r .width ≤ 4096 → r .height ≤ 4096
-    → (((r .kind ≡ 1) × (r .cap ≡ 0)) ⊎ (r .kind ≡ 2)) × (r .cap ≤ 2047) × (areaWidth r ≤ 4096) × (areaHeight r ≤ 4096)
-unfolding capForeign
-sound-cap r q w h = go (eqb (r .kind) 1) refl q
+sound-kind : (r : Record) → kindForeign r ≡ false → IsOfKind r
+unfolding kindForeign
+sound-kind r q = go (eqb (r .kind) 1) (eqb (r .edge) 0) refl refl q
   where
-    go : (t : Bool) → eqb (r .kind) 1 ≡ t
-        → cond t (not (eqb (r .cap) 0))
-        (not (eqb (r .kind) 2) || ltb 2047 (r .cap) || ltb 4096 (areaWidth r) || ltb 4096 (areaHeight r)) ≡ false
-        → (((r .kind ≡ 1) × (r .cap ≡ 0)) ⊎ (r .kind ≡ 2)) × (r .cap ≤ 2047) × (areaWidth r ≤ 4096) × (areaHeight r ≤ 4096)
-    go true k e =
-        let z : r .cap ≡ 0 = eqb-true (r .cap) 0 (not-false (eqb (r .cap) 0) e) in
-        let m : margin r ≡ 0 = ap (λ n. marginOf n (r .side)) z ∙ zero-mul (reach (r .side)) in
-        (inl (eqb-true (r .kind) 1 k, z), omega arith, omega arith, omega arith)
-    go false k e =
-        let f = neither (not (eqb (r .kind) 2) || ltb 2047 (r .cap) || ltb 4096 (areaWidth r)) (ltb 4096 (areaHeight r)) e in
-        let g = neither (not (eqb (r .kind) 2) || ltb 2047 (r .cap)) (ltb 4096 (areaWidth r)) (f .0) in
-        let i = neither (not (eqb (r .kind) 2)) (ltb 2047 (r .cap)) (g .0) in (
-          inr (eqb-true (r .kind) 2 (not-false (eqb (r .kind) 2) (i .0))),
-          ltb-false 2047 (r .cap) (i .1),
-          ltb-false 4096 (areaWidth r) (g .1),
-          ltb-false 4096 (areaHeight r) (f .1),
-        )
+    go : (a b : Bool) → eqb (r .kind) 1 ≡ a → eqb (r .edge) 0 ≡ b
+        → byKind (cond a (cond b eroding cropping) dilating) (not (eqb (r .cap) 0)) (not (eqb (r .kind) 2) || not (eqb (r .edge) 0))
+        (not (eqb (r .edge) 1)) ≡ false → IsOfKind r
+    go true true k e f = plain (eqb-true (r .kind) 1 k) (eqb-true (r .edge) 0 e) (eqb-true (r .cap) 0 (not-false _ f))
+    go true false k e f = crops (eqb-true (r .kind) 1 k) (eqb-true (r .edge) 1 (not-false _ f))
+    go false b k e f =
+        let (g, h) = neither (not (eqb (r .kind) 2)) (not (eqb (r .edge) 0)) f in
+        dilates (eqb-true (r .kind) 2 (not-false _ g)) (eqb-true (r .edge) 0 (not-false _ h))
+
+sound-cap : (r : Record) → capForeign r ≡ false → (r .cap ≤ 2047) × (areaWidth r ≤ 4096) × (areaHeight r ≤ 4096)
+unfolding capForeign
+sound-cap r q =
+    let (f, high) = neither (ltb 2047 (r .cap) || ltb 4096 (areaWidth r)) (ltb 4096 (areaHeight r)) q in
+    let (cap, wide) = neither (ltb 2047 (r .cap)) (ltb 4096 (areaWidth r)) f in
+    (ltb-false 2047 (r .cap) cap, ltb-false 4096 (areaWidth r) wide, ltb-false 4096 (areaHeight r) high)
 
 pub sound : (r : Record) → foreign r ≡ false → Sound r
 unfolding foreign elementForeign
 sound r e =
-    let f = neither (isSideOut (r .width) || isSideOut (r .height) || elementForeign (r .side) (r .cells)) (capForeign r) e in
+    let c = neither (isSideOut (r .width) || isSideOut (r .height) || elementForeign (r .side) (r .cells) || kindForeign r)
+    (capForeign r) e in
+    let f = neither (isSideOut (r .width) || isSideOut (r .height) || elementForeign (r .side) (r .cells)) (kindForeign r) (c .0) in
     let g = neither (isSideOut (r .width) || isSideOut (r .height)) (elementForeign (r .side) (r .cells)) (f .0) in
     let s = neither (isSideOut (r .width)) (isSideOut (r .height)) (g .0) in
     let h = neither (not (isSide (r .side)) || anyAbove 1 (r .cells) || anyOutside (r .side) (r .cells) 0 ||
@@ -214,7 +224,7 @@ sound r e =
     (eqb (getD (r .cells) 24 0) 0) (h .0) in
     let j = neither (not (isSide (r .side)) || anyAbove 1 (r .cells)) (anyOutside (r .side) (r .cells) 0) (i .0) in
     let k = neither (not (isSide (r .side))) (anyAbove 1 (r .cells)) (j .0) in
-    let c = sound-cap r (f .1) (side-in (r .width) (s .0) .1) (side-in (r .height) (s .1) .1) in
+    let fits = sound-cap r (c .1) in
     record {
       wide = side-in (r .width) (s .0);
       high = side-in (r .height) (s .1);
@@ -223,10 +233,10 @@ sound r e =
       square = j .1;
       centre = eqb-false (getD (r .cells) 24 0) 0 (i .1);
       others = eqb-false (countSet (r .cells)) 1 (h .1);
-      kind-is = c .0;
-      cap-small = c .1;
-      area-wide = c .2;
-      area-high = c .3;
+      kind-is = sound-kind r (f .1);
+      cap-small = fits .0;
+      area-wide = fits .1;
+      area-high = fits .2;
     }
 
 -- a record that is not refused

@@ -4,7 +4,7 @@
 use Prim.Native.Nat.{ℕ, zero, suc, _+_, _-_, _*_, _/_, _%_, _≤_, _<_}
 use native.Mathlib.Omega.{arith}
 use mathlib.Core.Path.{_≡_, refl, ap, ap₂, _∙_}
-use mathlib.Core.Bool.{Bool, true, false, not, cond, _&&_, true≢false}
+use mathlib.Core.Bool.{Bool, true, false, not, _&&_, true≢false}
 use mathlib.Core.Logic.{_≢_}
 use mathlib.Core.List.{List, [], _∷_}
 use lib.ListN.{getD}
@@ -23,7 +23,8 @@ use Rattle.scan.specs.Scan.{Reaches}
 use Rattle.scan.specs.Look.{partners}
 use Rattle.scan.proofs.PartnerLaws.{partners-element}
 use Rattle.run.specs.declared.Record.{Record}
-use Rattle.run.specs.Records.{isErosion, cellsOf, outside, anyOutside}
+use Rattle.run.specs.Kinds.{Kind, eroding, dilating, cropping, kindOf, byKind, cellsOf}
+use Rattle.run.specs.Records.{outside, anyOutside}
 use Rattle.run.proofs.RecordLaws.{Sound}
 
 cell-flat : (cells : List ℕ) (k : ℕ) → k < 49 → cellNumber (unflat cells) k ≡ getD cells k 0
@@ -68,12 +69,17 @@ module _ (r : Record) (s : Sound r) where
       (rw (let z : 0 + k ≡ k = omega arith in z) at (none-outside (r .side) (r .cells) 0 (s .square) k n)) .0)
 
   pub scan-reaches : Reaches (reach (r .side)) (cellsOf r)
-  scan-reaches = record { above = λ k l n. go (isErosion r) k l n }
+  scan-reaches = record { above = λ k l n. go (kindOf r) k l n }
     where
-      go : (t : Bool) (k : ℕ) → k < 49 → cellNumber (cond t (unflat (r .cells)) (turned (unflat (r .cells)))) k ≢ 0
+      given : (k : ℕ) → k < 49 → cellNumber (unflat (r .cells)) k ≢ 0 → 3 ≤ k / 7 + reach (r .side)
+      given k l n = let b = set-row k (λ z. n (cell-flat (r .cells) k l ∙ z)) in omega arith
+
+      go : (kind : Kind) (k : ℕ) → k < 49
+          → cellNumber (byKind kind (unflat (r .cells)) (turned (unflat (r .cells))) (unflat (r .cells))) k ≢ 0
           → 3 ≤ k / 7 + reach (r .side)
-      go true k l n = let b = set-row k (λ z. n (cell-flat (r .cells) k l ∙ z)) in omega arith
-      go false k l n =
+      go eroding k l n = given k l n
+      go cropping k l n = given k l n
+      go dilating k l n =
           let b = set-row (48 - k) (λ z. n (cell-turned (r .cells) k l ∙ z)) in
           let o = side-bounds (r .side) (s .side-is) in
           omega arith
@@ -91,15 +97,15 @@ module _ (r : Record) (s : Sound r) where
       let h = flat-binary (6 - i) (6 - j) (omega arith) (omega arith) in
       omega arith
 
-  -- THE PARTNERS: x + b for an erosion, x - b for a dilation
-  pub partners-erosion : isErosion r ≡ true → partners (cellsOf r) ≈ elementSet 7 (r .cells)
-  partners-erosion e =
+  -- THE PARTNERS: x + b where the cells are as given, x - b where they are turned
+  pub partners-given : cellsOf r ≡ unflat (r .cells) → partners (cellsOf r) ≈ elementSet 7 (r .cells)
+  partners-given e =
       let p = partners-element (unflat (r .cells)) flat-binary in
       let u = unflat-means (r .cells) in
       rw e ((λ x h. u .0 x (p .0 x h)), (λ x h. p .1 x (u .1 x h)))
 
-  pub partners-dilation : isErosion r ≡ false → partners (cellsOf r) ≈ reflect (elementSet 7 (r .cells))
-  partners-dilation e =
+  pub partners-turned : cellsOf r ≡ turned (unflat (r .cells)) → partners (cellsOf r) ≈ reflect (elementSet 7 (r .cells))
+  partners-turned e =
       let p = partners-element (turned (unflat (r .cells))) turned-binary in
       let t = turned-means (unflat (r .cells)) in
       let u = unflat-means (r .cells) in

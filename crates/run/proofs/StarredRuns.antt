@@ -9,15 +9,15 @@ use Rattle.basics.specs.Bounds.{anyAbove}
 use Rattle.basics.specs.Refusals.{Refusal, first}
 use Rattle.basics.specs.Tables.{table, raster}
 use Rattle.grid.specs.Starred.{Question, erosionLevels, openingLevels, dilationLevels, closingLevels, erodedBy, openedBy, Case}
-use Rattle.grid.specs.Starred.{starredCases as cases}
+use Rattle.grid.specs.Starred.{croppedLevels, starredCases as cases}
 use Rattle.grid.proofs.Searches.{Yes, by-test, both-dec, same-dec}
 use Rattle.element.specs.Elements.{isSide, countSet}
 use Rattle.element.specs.Cells.{sevenBySeven, isHeld, centredCell, centred, turned, flat, unflat}
 use Rattle.sheet.specs.Sheets.{pixel, isSideOut, packedByte, packed}
 use Rattle.row.specs.RowRule.{cellNumber, within, levelAt, partner, least, firstMet, lowered, pointRule, place, columns, rowRule}
 use Rattle.scan.specs.Scan.{scanRow, scanRows}
-use Rattle.run.specs.Records.{outside, anyOutside, elementForeign, capForeign, foreign, recordBad}
-use Rattle.run.specs.Starting.{inked, startLevels}
+use Rattle.run.specs.Records.{outside, anyOutside, elementForeign, kindForeign, capForeign, foreign, recordBad}
+use Rattle.run.specs.Starting.{framed, startArea}
 use Rattle.run.specs.Pictures.{collected, thresholded}
 use Rattle.run.specs.StarredRuns.{Shows, Given, RunsGive, AfterOneRow}
 
@@ -41,6 +41,7 @@ given-dec : (q : Question) (c : Case) → Dec (Given q c)
 given-dec erosionLevels c = shows-dec _ _ _ _
 given-dec (dilationLevels R) c = shows-dec _ _ _ _
 given-dec (erodedBy n) c = shows-dec _ _ _ _
+given-dec (croppedLevels width height R) c = shows-dec _ _ _ _
 given-dec openingLevels c = yes tt
 given-dec (closingLevels R) c = yes tt
 given-dec (openedBy n) c = yes tt
@@ -52,12 +53,12 @@ all-dec (c ∷ rest) = both-dec (given-dec (c .question) c) (all-dec rest)
 -- THE CLAIM
 pub starred-runs : RunsGive cases
 unfolding Yes list-dec shows-dec given-dec all-dec both-dec same-dec ℕ-discrete isSide anyAbove countSet isSideOut outside
-    anyOutside elementForeign capForeign foreign recordBad table raster sevenBySeven isHeld centredCell centred turned flat
+    anyOutside elementForeign kindForeign capForeign foreign recordBad table raster sevenBySeven isHeld centredCell centred turned flat
     unflat pixel packedByte packed cellNumber within levelAt partner least firstMet lowered pointRule place columns rowRule
-    scanRow scanRows inked startLevels collected thresholded
+    scanRow scanRows framed startArea collected thresholded
 starred-runs = by-test (all-dec cases) tt
 
 pub after-one-row : AfterOneRow
 unfolding table raster sevenBySeven isHeld centredCell centred turned flat unflat pixel packedByte packed cellNumber within
-    levelAt partner least firstMet lowered pointRule place columns rowRule scanRow scanRows inked startLevels
+    levelAt partner least firstMet lowered pointRule place columns rowRule scanRow scanRows framed startArea
 after-one-row = refl

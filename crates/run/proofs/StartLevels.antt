@@ -1,20 +1,24 @@
--- The start levels at a point of the area: one value where the point of the grid there is in the sheet's set, another elsewhere.
+-- The start levels at a point of the area: by whether the point of the grid there is in the sheet's set, or only in the frame, or
+-- in neither.
 use Prim.Native.Nat.{ℕ, _+_, _-_, _*_, _≤_, _<_}
 use native.Mathlib.Omega.{arith}
 use mathlib.Core.Path.{_≡_, refl, sym, ap, ap₂, _∙_}
-use mathlib.Core.Bool.{Bool, true, false, cond, _&&_, false≢true}
+use mathlib.Core.Bool.{Bool, true, false, _&&_, false≢true}
 use mathlib.Core.List.{List}
-use lib.Dec.{eqb, leb, ltb}
+use lib.Dec.{leb, ltb}
 use lib.IntN.{pos, _+ℤ_, _-ℤ_, -ℤ-+ℤ-cancel, +ℤ-negℤ-cancel}
 use lib.ListN.{getD}
-use borrow.Author.Tests.{le-leb, lt-ltb, eq-eqb, leb-true, ltb-true, eqb-true}
+use borrow.Author.Tests.{le-leb, lt-ltb, eq-eqb, ne-eqb, leb-true, ltb-true}
 use Rattle.basics.proofs.TableLaws.{getD-raster}
-use Rattle.grid.specs.Points.{at}
+use Rattle.grid.specs.Points.{Point, at}
+use Rattle.grid.specs.Figures.{frame}
+use Rattle.grid.specs.Crops.{background}
 use Rattle.grid.proofs.PointLaws.{pos-inj}
+use Rattle.grid.proofs.Searches.{frame-decided, figure-decided}
 use Rattle.sheet.specs.Sheets.{pixel, foreground}
 use Rattle.scan.specs.Starts.{onCanvas}
 use Rattle.run.specs.Records.{canvasSide}
-use Rattle.run.specs.Starting.{inked, startLevels}
+use Rattle.run.specs.Starting.{framed, startLevel, startArea}
 
 -- a place of the area and the coordinate there
 place-up : (p m q : ℕ) → pos p -ℤ pos m ≡ pos q → p ≡ q + m
@@ -24,10 +28,30 @@ pub place-down : (p m : ℕ) → m ≤ p → pos p -ℤ pos m ≡ pos (p - m)
 place-down p m l = ap (λ (n : ℕ). pos n -ℤ pos m) (let e : p ≡ p - m + m = omega arith in e)
     ∙ +ℤ-negℤ-cancel (pos (p - m)) (pos m)
 
+-- what the test of the frame decides
+pub framed-bounds : (width height margin row col : ℕ) → framed width height margin row col ≡ true
+    → (margin ≤ row) × (row < margin + height) × (margin ≤ col) × (col < margin + width)
+unfolding framed
+framed-bounds width height margin row col e =
+    go (leb margin row) (ltb row (margin + height)) (leb margin col) (ltb col (margin + width)) refl refl refl refl e
+  where
+    go : (a b c d : Bool) → leb margin row ≡ a → ltb row (margin + height) ≡ b → leb margin col ≡ c
+        → ltb col (margin + width) ≡ d → (a && b) && (c && d) ≡ true
+        → (margin ≤ row) × (row < margin + height) × (margin ≤ col) × (col < margin + width)
+    go true true true true p q s t e =
+        (leb-true margin row p, ltb-true row (margin + height) q, leb-true margin col s, ltb-true col (margin + width) t)
+    go true true true false p q s t e = absurd (false≢true e)
+    go true true false d p q s t e = absurd (false≢true e)
+    go true false c d p q s t e = absurd (false≢true e)
+    go false b c d p q s t e = absurd (false≢true e)
+
 module _ (width height margin : ℕ) (sheet : List ℕ) (row col : ℕ) where
-  pub inked-on : foreground width height sheet (onCanvas margin row col) → inked width height margin sheet row col ≡ true
-  unfolding inked
-  inked-on (r, c, a, b, v, e) =
+  abbrev x : Point
+  x = onCanvas margin row col
+
+  framed-on : frame width height x → framed width height margin row col ≡ true
+  unfolding framed
+  framed-on (r, c, a, b, e) =
       let p = place-up row margin r (ap (λ z. z .row) e) in
       let q = place-up col margin c (ap (λ z. z .col) e) in
       rw (
@@ -36,54 +60,64 @@ module _ (width height margin : ℕ) (sheet : List ℕ) (row col : ℕ) where
         le-leb margin col (omega arith),
         lt-ltb col (margin + width) (omega arith),
       )
-      (eq-eqb (pixel width sheet (row - margin) (col - margin)) 1
-      (ap₂ (pixel width sheet) (let f : row - margin ≡ r = omega arith in f) (let f : col - margin ≡ c = omega arith in f) ∙ v))
 
-  pub inked-is : inked width height margin sheet row col ≡ true → foreground width height sheet (onCanvas margin row col)
-  unfolding inked
-  inked-is e = go (leb margin row) (ltb row (margin + height)) (leb margin col) (ltb col (margin + width))
-      (eqb (pixel width sheet (row - margin) (col - margin)) 1) refl refl refl refl refl e
-    where
-      go : (a b c d f : Bool) → leb margin row ≡ a → ltb row (margin + height) ≡ b → leb margin col ≡ c
-          → ltb col (margin + width) ≡ d → eqb (pixel width sheet (row - margin) (col - margin)) 1 ≡ f
-          → (a && b) && (c && d) && f ≡ true → foreground width height sheet (onCanvas margin row col)
-      go true true true true true p q s t u e =
-          let l = leb-true margin row p in
-          let h = ltb-true row (margin + height) q in
-          let m = leb-true margin col s in
-          let i = ltb-true col (margin + width) t in (
-            row - margin,
-            col - margin,
-            omega arith,
-            omega arith,
-            eqb-true (pixel width sheet (row - margin) (col - margin)) 1 u,
-            ap₂ at (place-down row margin l) (place-down col margin m),
-          )
-      go true true true true false p q s t u e = absurd (false≢true e)
-      go true true true false f p q s t u e = absurd (false≢true e)
-      go true true false d f p q s t u e = absurd (false≢true e)
-      go true false c d f p q s t u e = absurd (false≢true e)
-      go false b c d f p q s t u e = absurd (false≢true e)
+  place-is : framed width height margin row col ≡ true → x ≡ at (pos (row - margin)) (pos (col - margin))
+  place-is e = let (l, _, m, _) = framed-bounds width height margin row col e in
+      ap₂ at (place-down row margin l) (place-down col margin m)
 
-  pub inked-off : ¬ foreground width height sheet (onCanvas margin row col) → inked width height margin sheet row col ≡ false
-  inked-off n = go (inked width height margin sheet row col) refl
+  framed-off : ¬ frame width height x → framed width height margin row col ≡ false
+  framed-off n = go (framed width height margin row col) refl
     where
-      go : (t : Bool) → inked width height margin sheet row col ≡ t → inked width height margin sheet row col ≡ false
-      go true e = absurd (n (inked-is e))
+      go : (t : Bool) → framed width height margin row col ≡ t → framed width height margin row col ≡ false
+      go true e =
+          let (l, h, m, i) = framed-bounds width height margin row col e in
+          absurd (n (row - margin, col - margin, omega arith, omega arith, place-is e))
       go false e = e
 
   -- the level there
-  module _ (on off : ℕ) (a : row < canvasSide height margin) (b : col < canvasSide width margin) where
-    level-at : getD (startLevels width height margin sheet on off) (row * canvasSide width margin + col) 0
-        ≡ cond (inked width height margin sheet row col) on off
-    unfolding startLevels
+  module _ (on off outside : ℕ) (a : row < canvasSide height margin) (b : col < canvasSide width margin) where
+    abbrev level : ℕ
+    level = getD (startArea width height margin sheet on off outside) (row * canvasSide width margin + col) 0
+
+    level-at : level ≡ startLevel width height margin sheet on off outside row col
+    unfolding startArea
     level-at = getD-raster (canvasSide width margin) (canvasSide height margin)
-        (λ row col. cond (inked width height margin sheet row col) on off) row col 0 a b
+        (startLevel width height margin sheet on off outside) row col 0 a b
 
-    pub level-on : foreground width height sheet (onCanvas margin row col)
-        → getD (startLevels width height margin sheet on off) (row * canvasSide width margin + col) 0 ≡ on
-    level-on h = level-at ∙ rw (inked-on h)
+    pub level-on : foreground width height sheet x → level ≡ on
+    level-on (r, c, i, j, v, e) =
+        let p = place-up row margin r (ap (λ z. z .row) e) in
+        let q = place-up col margin c (ap (λ z. z .col) e) in
+        let same = ap₂ (pixel width sheet) (let f : row - margin ≡ r = omega arith in f) (let f : col - margin ≡ c = omega arith in f) in
+        level-at ∙ rw (framed-on (r, c, i, j, e), eq-eqb (pixel width sheet (row - margin) (col - margin)) 1 (same ∙ v))
 
-    pub level-off : ¬ foreground width height sheet (onCanvas margin row col)
-        → getD (startLevels width height margin sheet on off) (row * canvasSide width margin + col) 0 ≡ off
-    level-off n = level-at ∙ rw (inked-off n)
+    level-off : frame width height x → ¬ foreground width height sheet x → level ≡ off
+    level-off f n =
+        let e = framed-on f in
+        let (l, h, m, i) = framed-bounds width height margin row col e in
+        let unset = ne-eqb (pixel width sheet (row - margin) (col - margin)) 1
+        (λ v. n (row - margin, col - margin, omega arith, omega arith, v, place-is e)) in
+        level-at ∙ rw (e, unset)
+
+    level-outside : ¬ frame width height x → level ≡ outside
+    level-outside n = level-at ∙ rw (framed-off n)
+
+    -- where the margin starts as the background: all but the foreground
+    pub level-unset : off ≡ outside → ¬ foreground width height sheet x → level ≡ off
+    level-unset same n = go (frame-decided width height x)
+      where
+        go : Dec (frame width height x) → level ≡ off
+        go (yes f) = level-off f n
+        go (no m) = level-outside m ∙ sym same
+
+    -- where it starts as the foreground: all but the background
+    pub level-background : background width height (foreground width height sheet) x → level ≡ off
+    level-background (f, n) = level-off f n
+
+    pub level-set : on ≡ outside → ¬ background width height (foreground width height sheet) x → level ≡ on
+    level-set same n = go (frame-decided width height x) (figure-decided width height (pixel width sheet) x)
+      where
+        go : Dec (frame width height x) → Dec (foreground width height sheet x) → level ≡ on
+        go (yes f) (yes h) = level-on h
+        go (yes f) (no m) = absurd (n (f, m))
+        go (no m) h = level-outside m ∙ sym same

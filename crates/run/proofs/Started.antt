@@ -2,50 +2,37 @@
 -- is not foreign is given by some start.
 use Prim.Native.Nat.{ℕ, _*_, _≤_}
 use native.Mathlib.Nat.{zero-mul}
+use native.Mathlib.Omega.{arith}
 use mathlib.Core.Path.{_≡_, refl, sym, ap, subst, _∙_}
-use mathlib.Core.Bool.{false, not, cond, _||_}
-use mathlib.Core.Logic.{_↔_, _⊎_, inl, inr}
+use mathlib.Core.Bool.{false, not, _||_}
+use mathlib.Core.Logic.{_↔_}
 use mathlib.Core.List.{List, [], _∷_, _++_}
 use lib.Dec.{eqb, ltb}
 use lib.ListN.{length, replicate, length-replicate}
 use borrow.Author.Tests.{eq-eqb, le-ltb}
-use Rattle.basics.specs.Refusals.{Refusal, first}
+use Rattle.basics.specs.Refusals.{Refusal, first, Answers}
 use Rattle.basics.proofs.RefusalLaws.{first-accepted, accepts}
 use Rattle.basics.proofs.TableLaws.{length-raster}
 use Rattle.grid.specs.Figures.{reach}
 use Rattle.element.specs.Elements.{elementRefusals}
-use Rattle.element.proofs.Accepted.{accepted}
 use Rattle.sheet.specs.Sheets.{rowBytes, sheetRefusals}
 use Rattle.sheet.proofs.FrameLaws.{accept-frame, accept-sheet, side-fits}
-use Rattle.row.specs.RowRule.{none}
 use Rattle.run.specs.declared.Record.{Record}
-use Rattle.run.specs.Records.{marginOf, canvasSide, areaWidth, areaHeight, capForeign, foreign, due, recordBad}
-use Rattle.run.specs.Starting.{startRecord, inked, startLevels, erosionRefusals, dilationRefusals}
+use Rattle.run.specs.Kinds.{Kind, eroding, dilating, cropping, byKind, kindNumber, edgeRule}
+use Rattle.run.specs.Records.{marginOf, canvasSide, areaWidth, areaHeight, kindForeign, capForeign, foreign, due, recordBad}
+use Rattle.run.specs.Records.{noRecord}
+use Rattle.run.specs.Starting.{startRecord, startLevel, startArea, startLevels, begun, erosionRefusals, dilationRefusals}
 use Rattle.run.specs.Continuing.{withRows}
-use Rattle.run.specs.Series.{Started, erosion, dilation}
-use Rattle.run.proofs.RecordLaws.{Sound, sound}
+use Rattle.run.specs.Series.{Started, erosion, dilation, cropped}
+use Rattle.run.proofs.RecordLaws.{IsOfKind, plain, dilates, crops, Sound, sound}
 use Rattle.run.proofs.Starts.{Judged, judged, erosion-taken, dilation-taken, canvas-taken}
 use Rattle.run.proofs.StartRecords.{start-cells-sound, square, bytes-accepted, bytes-give}
 
--- what both starts accept
-module _ {width height : ℕ} {sheet : List ℕ} {side : ℕ} {bytes : List ℕ} (j : Judged width height sheet side bytes) where
-  start-sound : (kind cap : ℕ) → capForeign (startRecord kind width height cap side bytes) ≡ false
-      → foreign (startRecord kind width height cap side bytes) ≡ false
-  unfolding foreign
-  start-sound kind cap c =
-      rw (
-        side-fits width (j .wide .0) (j .wide .1),
-        side-fits height (j .high .0) (j .high .1),
-        start-cells-sound side bytes (j .element),
-        c,
-      )
-
-pub length-start : (width height margin : ℕ) (sheet : List ℕ) (on off : ℕ)
-    → length (startLevels width height margin sheet on off) ≡ canvasSide height margin * canvasSide width margin
-unfolding startLevels
-length-start width height margin sheet on off =
-    length-raster (canvasSide width margin) (canvasSide height margin)
-    (λ row col. cond (inked width height margin sheet row col) on off)
+pub length-start : (width height margin : ℕ) (sheet : List ℕ) (on off outside : ℕ)
+    → length (startArea width height margin sheet on off outside) ≡ canvasSide height margin * canvasSide width margin
+unfolding startArea
+length-start width height margin sheet on off outside =
+    length-raster (canvasSide width margin) (canvasSide height margin) (startLevel width height margin sheet on off outside)
 
 -- A STARTED RUN
 pub record IsStart (r : Record) (levels : List ℕ) : Type 0 where
@@ -53,44 +40,56 @@ pub record IsStart (r : Record) (levels : List ℕ) : Type 0 where
   pub fresh : r .rows ≡ 0
   pub size : length levels ≡ areaHeight r * areaWidth r
 
-cap-erosion : (width height side : ℕ) (bytes : List ℕ) → capForeign (startRecord 1 width height 0 side bytes) ≡ false
-unfolding capForeign
-cap-erosion width height side bytes = refl
+-- a plain erosion has no cap; the other two have any
+abbrev CapOfKind : Kind → ℕ → Type 0
+CapOfKind kind cap = byKind kind cap 0 0 ≡ 0
 
-cap-dilation : (width height cap side : ℕ) (bytes : List ℕ) → cap ≤ 2047 → canvasSide width (marginOf cap side) ≤ 4096
-    → canvasSide height (marginOf cap side) ≤ 4096 → capForeign (startRecord 2 width height cap side bytes) ≡ false
-unfolding capForeign
-cap-dilation width height cap side bytes a b c =
-    rw (
-      le-ltb 2047 cap a,
-      le-ltb 4096 (canvasSide width (marginOf cap side)) b,
-      le-ltb 4096 (canvasSide height (marginOf cap side)) c,
-    )
+kind-taken : (kind : Kind) (width height cap side : ℕ) (bytes : List ℕ) → CapOfKind kind cap
+    → kindForeign (startRecord kind width height cap side bytes) ≡ false
+unfolding kindForeign
+kind-taken eroding width height cap side bytes e = rw (eq-eqb cap 0 e)
+kind-taken dilating width height cap side bytes e = refl
+kind-taken cropping width height cap side bytes e = refl
+
+-- what every accepted start gives, its canvas in its limits and its cap that of its kind
+begun-is : {width height : ℕ} {sheet : List ℕ} {side : ℕ} {bytes : List ℕ} → Judged width height sheet side bytes → (kind : Kind)
+    (cap : ℕ) → CapOfKind kind cap → cap ≤ 2047 → canvasSide width (marginOf cap side) ≤ 4096
+    → canvasSide height (marginOf cap side) ≤ 4096 → {r : Record} {levels : List ℕ}
+    → (r, levels) ≡ begun (startRecord kind width height cap side bytes) sheet → IsStart r levels
+unfolding foreign capForeign
+begun-is {width} {height} {sheet} {side} {bytes} j kind cap k c w h q =
+    let taken : foreign (startRecord kind width height cap side bytes) ≡ false = rw (
+      side-fits width (j .wide .0) (j .wide .1),
+      side-fits height (j .high .0) (j .high .1),
+      start-cells-sound side bytes (j .element),
+      kind-taken kind width height cap side bytes k,
+      le-ltb 2047 cap c,
+      le-ltb 4096 (canvasSide width (marginOf cap side)) w,
+      le-ltb 4096 (canvasSide height (marginOf cap side)) h,
+    ) in
+    subst (λ (t : Record × List ℕ). IsStart (t .0) (t .1)) (sym q)
+    (record { taken = taken; fresh = refl; size = length-start width height (marginOf cap side) sheet _ _ _ })
+
+-- a start on the canvas of a cap
+canvas-start : (width height : ℕ) (sheet : List ℕ) (side : ℕ) (bytes : List ℕ) (cap : ℕ) (lent : List ℕ) (kind : Kind)
+    → CapOfKind kind cap → first (dilationRefusals width height sheet side bytes cap lent) ≡ 0 → {r : Record} {levels : List ℕ}
+    → (r, levels) ≡ begun (startRecord kind width height cap side bytes) sheet → IsStart r levels
+canvas-start width height sheet side bytes cap lent kind k z =
+    let (common, small, canvas) = dilation-taken width height sheet side bytes cap lent z in
+    let (wide, high, _) = canvas-taken width height cap side (length lent) canvas in
+    begun-is (judged width height sheet side bytes common) kind cap k small wide high
 
 pub is-start : {r : Record} {levels : List ℕ} → Started r levels → IsStart r levels
-is-start (erosion width height sheet side bytes lent {r = r} {levels = levels} a) =
+is-start (erosion width height sheet side bytes lent a) =
     let j = judged width height sheet side bytes (erosion-taken width height sheet side bytes lent (sym (a .refusal)) .0) in
-    let q = a .accepted refl in
-    let e : startRecord 1 width height 0 side bytes ≡ r = sym (ap (λ t. t .0) q) in
-    let f : startLevels width height 0 sheet none 0 ≡ levels = sym (ap (λ t. t .1) q) in
-    let size : length (startLevels width height 0 sheet none 0)
-    ≡ areaHeight (startRecord 1 width height 0 side bytes) * areaWidth (startRecord 1 width height 0 side bytes) =
-    length-start width height 0 sheet none 0 ∙ ap (λ m. canvasSide height m * canvasSide width m) (sym (zero-mul (reach side))) in
-    subst (λ x. IsStart x levels) e (subst (λ l. IsStart (startRecord 1 width height 0 side bytes) l) f
-    (record { taken = start-sound j 1 0 (cap-erosion width height side bytes); fresh = refl; size = size }))
-is-start (dilation width height sheet side bytes cap lent {r = r} {levels = levels} a) =
-    let p = dilation-taken width height sheet side bytes cap lent (sym (a .refusal)) in
-    let j = judged width height sheet side bytes (p .0) in
-    let t = canvas-taken width height cap side (length lent) (p .2) in
-    let q = a .accepted refl in
-    let e : startRecord 2 width height cap side bytes ≡ r = sym (ap (λ t. t .0) q) in
-    let f : startLevels width height (marginOf cap side) sheet 1 none ≡ levels = sym (ap (λ t. t .1) q) in
-    subst (λ x. IsStart x levels) e (subst (λ l. IsStart (startRecord 2 width height cap side bytes) l) f
-    (record {
-      taken = start-sound j 2 cap (cap-dilation width height cap side bytes (p .1) (t .0) (t .1));
-      fresh = refl;
-      size = length-start width height (marginOf cap side) sheet 1 none;
-    }))
+    let z = zero-mul (reach side) in
+    let w = j .wide .1 in
+    let h = j .high .1 in
+    begun-is j eroding 0 refl (omega arith) (omega arith) (omega arith) (a .accepted refl)
+is-start (dilation width height sheet side bytes cap lent a) =
+    canvas-start width height sheet side bytes cap lent dilating refl (sym (a .refusal)) (a .accepted refl)
+is-start (cropped width height sheet side bytes cap lent a) =
+    canvas-start width height sheet side bytes cap lent cropping refl (sym (a .refusal)) (a .accepted refl)
 
 -- a record that is not foreign is a start's, rows done aside: with an empty sheet and levels of the right length
 blank : ℕ → ℕ → List ℕ
@@ -105,61 +104,75 @@ module _ (r : Record) (s : Sound r) (size : length (r .cells) ≡ 49) where
       sym (accept-sheet (r .width) (r .height) (replicate (r .height * rowBytes (r .width)) 0) (sym f)
       (length-replicate (r .height * rowBytes (r .width)) 0))
 
-  given-erosion : r .kind ≡ 1 → r .cap ≡ 0 → (levels : List ℕ) × Started (withRows r 0) levels
-  given-erosion k c =
-      let w = r .width in
-      let h = r .height in
-      let sheet = blank (r .width) (r .height) in
-      let side = r .side in
-      let bytes = square (r .side) (r .cells) in
+  abbrev w : ℕ
+  w = r .width
+
+  abbrev h : ℕ
+  h = r .height
+
+  abbrev sheet : List ℕ
+  sheet = blank (r .width) (r .height)
+
+  abbrev bytes : List ℕ
+  bytes = square (r .side) (r .cells)
+
+  -- the record that a start gives of its frame, element, kind and edge rule
+  same-record : (kind : Kind) (cap : ℕ) → r .kind ≡ kindNumber kind → r .edge ≡ edgeRule kind → r .cap ≡ cap
+      → withRows r 0 ≡ startRecord kind w h cap (r .side) bytes
+  same-record kind cap k e c i = record {
+    kind = k i;
+    width = w;
+    height = h;
+    cap = c i;
+    side = r .side;
+    rows = 0;
+    cells = sym (bytes-give r s size) i;
+    edge = e i;
+  }
+
+  given-erosion : r .kind ≡ 1 → r .edge ≡ 0 → r .cap ≡ 0 → (levels : List ℕ) × Started (withRows r 0) levels
+  given-erosion k e c =
       let lent : List ℕ = replicate (h * w) 0 in
       let last : List Refusal = (10, not (eqb (length lent) (h * w))) ∷ [] in
-      let z : first (erosionRefusals w h sheet side bytes lent) ≡ 0 =
-      first-accepted (sheetRefusals w h sheet) (elementRefusals side bytes ++ last) tt sheet-ok
-      ∙ first-accepted (elementRefusals side bytes) last tt (bytes-accepted r s size)
-      ∙ rw (eq-eqb (length lent) (h * w) (length-replicate (h * w) 0)) in
-      let e : withRows r 0 ≡ startRecord 1 w h 0 side bytes =
-      λ i. record { kind = k i; width = w; height = h; cap = c i; side = side; rows = 0; cells = sym (bytes-give r s size) i } in (
-        startLevels w h 0 sheet none 0,
-        erosion w h sheet side bytes lent
-            (accepts (withRows r 0, startLevels w h 0 sheet none 0) z (λ i. (e i, startLevels w h 0 sheet none 0))),
+      let z : first (erosionRefusals w h sheet (r .side) bytes lent) ≡ 0 =
+      first-accepted (sheetRefusals w h sheet) (elementRefusals (r .side) bytes ++ last) tt sheet-ok
+      ∙ first-accepted (elementRefusals (r .side) bytes) last tt (bytes-accepted r s size)
+      ∙ rw (eq-eqb (length lent) (h * w) (length-replicate (h * w) 0)) in (
+        startLevels (withRows r 0) sheet,
+        erosion w h sheet (r .side) bytes lent
+            (accepts _ z (ap (λ (t : Record). begun t sheet) (same-record eroding 0 k e c))),
       )
 
-  given-dilation : r .kind ≡ 2 → (levels : List ℕ) × Started (withRows r 0) levels
-  given-dilation k =
-      let w = r .width in
-      let h = r .height in
-      let sheet = blank (r .width) (r .height) in
-      let side = r .side in
+  given-canvas : (kind : Kind) → r .kind ≡ kindNumber kind → r .edge ≡ edgeRule kind
+      → ((lent levels : List ℕ)
+      → Answers (dilationRefusals w h sheet (r .side) bytes (r .cap) lent) (noRecord, lent)
+      (λ after. after ≡ begun (startRecord kind w h (r .cap) (r .side) bytes) sheet) 0 (withRows r 0, levels)
+      → Started (withRows r 0) levels)
+      → (levels : List ℕ) × Started (withRows r 0) levels
+  given-canvas kind k e start =
       let cap = r .cap in
-      let bytes = square (r .side) (r .cells) in
-      let cw = canvasSide w (marginOf cap side) in
-      let ch = canvasSide h (marginOf cap side) in
+      let cw = areaWidth r in
+      let ch = areaHeight r in
       let lent : List ℕ = replicate (ch * cw) 0 in
       let last : List Refusal = (8, ltb 2047 cap) ∷ (9, ltb 4096 cw || ltb 4096 ch) ∷ (10, not (eqb (length lent) (ch * cw))) ∷
       [] in
-      let z : first (dilationRefusals w h sheet side bytes cap lent) ≡ 0 =
-      first-accepted (sheetRefusals w h sheet) (elementRefusals side bytes ++ last) tt sheet-ok
-      ∙ first-accepted (elementRefusals side bytes) last tt (bytes-accepted r s size)
+      let z : first (dilationRefusals w h sheet (r .side) bytes cap lent) ≡ 0 =
+      first-accepted (sheetRefusals w h sheet) (elementRefusals (r .side) bytes ++ last) tt sheet-ok
+      ∙ first-accepted (elementRefusals (r .side) bytes) last tt (bytes-accepted r s size)
       ∙ rw (
         le-ltb 2047 cap (s .cap-small),
         le-ltb 4096 cw (s .area-wide),
         le-ltb 4096 ch (s .area-high),
         eq-eqb (length lent) (ch * cw) (length-replicate (ch * cw) 0),
-      ) in
-      let e : withRows r 0 ≡ startRecord 2 w h cap side bytes =
-      λ i. record { kind = k i; width = w; height = h; cap = cap; side = side; rows = 0; cells = sym (bytes-give r s size) i } in (
-        startLevels w h (marginOf cap side) sheet 1 none,
-        dilation w h sheet side bytes cap lent
-            (accepts (
-              withRows r 0,
-              startLevels w h (marginOf cap side) sheet 1 none,
-            ) z (λ i. (e i, startLevels w h (marginOf cap side) sheet 1 none))),
+      ) in (
+        startLevels (withRows r 0) sheet,
+        start lent (startLevels (withRows r 0) sheet)
+            (accepts _ z (ap (λ (t : Record). begun t sheet) (same-record kind cap k e refl))),
       )
 
 -- rows done do not matter
 pub foreign-rows : (r : Record) (n : ℕ) → foreign (withRows r n) ≡ foreign r
-unfolding foreign capForeign
+unfolding foreign kindForeign capForeign
 foreign-rows r n = refl
 
 -- a started run's record is sound after any number of its rows
@@ -172,6 +185,7 @@ pub foreign-exact : (r : Record) → length (r .cells) ≡ 49
     → (foreign r ≡ false) ↔ ((levels : List ℕ) × Started (withRows r 0) levels)
 foreign-exact r size = ((λ e. go (sound r e) (sound r e .kind-is)), (λ h. sym (foreign-rows r 0) ∙ is-start (h .1) .taken))
   where
-    go : Sound r → ((r .kind ≡ 1) × (r .cap ≡ 0)) ⊎ (r .kind ≡ 2) → (levels : List ℕ) × Started (withRows r 0) levels
-    go s (inl h) = given-erosion r s size (h .0) (h .1)
-    go s (inr k) = given-dilation r s size k
+    go : Sound r → IsOfKind r → (levels : List ℕ) × Started (withRows r 0) levels
+    go s (plain k e c) = given-erosion r s size k e c
+    go s (dilates k e) = given-canvas r s size dilating k e (λ lent levels. dilation _ _ _ _ _ _ lent)
+    go s (crops k e) = given-canvas r s size cropping k e (λ lent levels. cropped _ _ _ _ _ _ lent)

@@ -1,7 +1,8 @@
--- The answers of the two starts, and that no second outcome meets their contracts.
--- Both kinds judge the sheet and the element first, and after that a list of their own; where a start is accepted, each of its
+-- The answers of the three starts, and that no second outcome meets their contracts.
+-- All judge the sheet and the element first, and after that a list of their own; where a start is accepted, each of its
 -- refusals was found not to apply.
 use Prim.Native.Nat.{ℕ, _*_, _≤_, _<_}
+use native.Mathlib.Nat.{zero-mul}
 use native.Mathlib.Omega.{arith}
 use mathlib.Core.Path.{_≡_, refl, ap₂, _∙_}
 use mathlib.Core.Logic.{_≢_}
@@ -12,22 +13,24 @@ use lib.ListN.{length}
 use borrow.Author.Tests.{lt-ltb, le-ltb, ltb-false, eq-eqb, ne-eqb, eqb-true}
 use Rattle.basics.specs.Refusals.{Refusal, first, Answers}
 use Rattle.basics.proofs.RefusalLaws.{judged-first, judged-next, first-both, passed, refuses, accepts, rule-unique}
+use Rattle.grid.specs.Figures.{reach}
 use Rattle.element.specs.Elements.{elementRefusals}
 use Rattle.element.specs.Cells.{centred, flat}
 use Rattle.element.proofs.Accepted.{Accepted, accepted}
 use Rattle.sheet.specs.Sheets.{rowBytes, sheetRefusals}
 use Rattle.sheet.proofs.FrameLaws.{frame-sides, sheet-accepted}
 use Rattle.run.specs.declared.Record.{Record}
-use Rattle.run.specs.Records.{marginOf, canvasSide, noRecord}
-use Rattle.run.specs.Starting.{startRecord, erosionRefusals, StartsErosion, canvasSize, canvasRefusals, dilationRefusals}
-use Rattle.run.specs.Starting.{StartsDilation}
+use Rattle.run.specs.Kinds.{onOf, offOf, beyondOf}
+use Rattle.run.specs.Records.{marginOf, margin, canvasSide, noRecord}
+use Rattle.run.specs.Starting.{freshRecord, startArea, startLevels, begun, erosionRefusals, StartsErosion, canvasSize, canvasRefusals}
+use Rattle.run.specs.Starting.{dilationRefusals, StartsDilation, StartsCropped}
 use Rattle.run.specs.Patches.{Canvas}
 
 -- the record of an accepted start
-pub begun-record : (kind width height cap side : ℕ) (bytes cells : List ℕ) → cells ≡ flat (centred side bytes)
-    → record { kind = kind; width = width; height = height; cap = cap; side = side; rows = 0; cells = cells }
-    ≡ startRecord kind width height cap side bytes
-begun-record kind width height cap side bytes cells e = rw e
+pub fresh-record : (kind edge width height cap side : ℕ) (bytes cells : List ℕ) → cells ≡ flat (centred side bytes)
+    → record { kind = kind; width = width; height = height; cap = cap; side = side; rows = 0; cells = cells; edge = edge }
+    ≡ freshRecord kind edge width height cap side bytes
+fresh-record kind edge width height cap side bytes cells e = rw e
 
 -- what an accepted start has: a sound frame, the sheet's bytes, and a sound element
 pub record Judged (width height : ℕ) (sheet : List ℕ) (side : ℕ) (bytes : List ℕ) : Type 0 where
@@ -37,7 +40,7 @@ pub record Judged (width height : ℕ) (sheet : List ℕ) (side : ℕ) (bytes : 
   pub element : Accepted side bytes
 
 module _ (width height : ℕ) (sheet : List ℕ) (side : ℕ) (bytes : List ℕ) where
-  -- refusals 2 to 7, of both kinds
+  -- refusals 2 to 7, of all starts
   abbrev common : List Refusal
   common = sheetRefusals width height sheet ++ elementRefusals side bytes
 
@@ -146,34 +149,38 @@ module _ (width height : ℕ) (sheet : List ℕ) (side : ℕ) (bytes : List ℕ)
       (p .0, ltb-false 2047 cap (q .0), q .1)
 
 -- the answers
-module _ {refusals : List Refusal} {levels : List ℕ} {begun : Record} {started : List ℕ} where
+module _ {refusals : List Refusal} {levels : List ℕ} {r : Record} (sheet : List ℕ) where
   pub start-refuses : {answered number : ℕ} {run : Record} → number ≢ 0 → number ≡ first refusals
       → (answered ≡ number) × (run ≡ noRecord)
-      → Answers {A = Record × List ℕ} refusals (noRecord, levels) (λ x. x ≡ (begun, started)) answered (run, levels)
+      → Answers {A = Record × List ℕ} refusals (noRecord, levels) (λ x. x ≡ begun r sheet) answered (run, levels)
   start-refuses {answered} {number} {run} n e (p, q) = rw (p, q) (refuses number n e)
 
-  pub start-accepts : {answered : ℕ} {run : Record} {after : List ℕ} → first refusals ≡ 0 → (answered ≡ 0) × (run ≡ begun)
-      → after ≡ started → Answers {A = Record × List ℕ} refusals (noRecord, levels) (λ x. x ≡ (begun, started)) answered (
-        run,
-        after,
-      )
-  start-accepts {answered} {run} {after} e (p, q) h = rw (p, q, h) (accepts (begun, started) e refl)
+  pub start-accepts : {run : Record} {after : List ℕ} → first refusals ≡ 0 → run ≡ r → after ≡ startLevels run sheet
+      → Answers {A = Record × List ℕ} refusals (noRecord, levels) (λ x. x ≡ begun r sheet) 0 (run, after)
+  start-accepts {run} {after} e q h = rw (h, q) (accepts (begun r sheet) e refl)
 
--- an erosion has no margin
-pub frame-canvas : {width height : ℕ} {levels : List ℕ} → width ≤ 4096 → height ≤ 4096 → length levels ≡ height * width
-    → Canvas width height 0 levels
-frame-canvas {width} {height} a b e = record {
-  wide = omega arith;
-  high = omega arith;
-  room = e ∙ ap₂ (λ h w. h * w) (let p : height ≡ canvasSide height 0 = omega arith in p)
-      (let p : width ≡ canvasSide width 0 = omega arith in p);
-}
+-- the levels filled by a record's kind
+pub levels-filled : (r : Record) (sheet : List ℕ) {m on off outside : ℕ} {after : List ℕ} → m ≡ margin r → on ≡ onOf r
+    → off ≡ offOf r → outside ≡ beyondOf r → after ≡ startArea (r .width) (r .height) m sheet on off outside
+    → after ≡ startLevels r sheet
+levels-filled r sheet p q s t e = e ∙ rw (p, q, s, t)
 
--- a dilation's canvas, its margin worked out
-pub canvas-area : (width height cap side m : ℕ) (levels : List ℕ) → m ≡ marginOf cap side
-    → first (canvasRefusals width height cap side (length levels)) ≡ 0 → Canvas width height m levels
-canvas-area width height cap side m levels q z = let t = canvas-taken width height cap side (length levels) z in
-    rw q (record { wide = t .0; high = t .1; room = t .2 })
+-- what filling the levels of a fresh record asks: a plain erosion has no margin ..
+pub frame-canvas : (width height side : ℕ) (levels : List ℕ) → width ≤ 4096 → height ≤ 4096 → length levels ≡ height * width
+    → Canvas width height (marginOf 0 side) levels
+frame-canvas width height side levels a b e =
+    let z = zero-mul (reach side) in record {
+      wide = omega arith;
+      high = omega arith;
+      room = e ∙ ap₂ (λ h w. h * w) (let p : height ≡ canvasSide height (marginOf 0 side) = omega arith in p)
+          (let p : width ≡ canvasSide width (marginOf 0 side) = omega arith in p);
+    }
+
+-- .. the others have the canvas of their cap
+pub canvas-area : (width height cap side : ℕ) (levels : List ℕ)
+    → first (canvasRefusals width height cap side (length levels)) ≡ 0 → Canvas width height (marginOf cap side) levels
+canvas-area width height cap side levels z = let t = canvas-taken width height cap side (length levels) z in
+    record { wide = t .0; high = t .1; room = t .2 }
 
 -- NO SECOND OUTCOME
 pub start-erosion-unique : (width height : ℕ) (sheet : List ℕ) (side : ℕ) (bytes levels : List ℕ) (m n : ℕ)
@@ -187,3 +194,9 @@ pub start-dilation-unique : (width height : ℕ) (sheet : List ℕ) (side : ℕ)
     → StartsDilation width height sheet side bytes cap levels m x → StartsDilation width height sheet side bytes cap levels n y
     → (m ≡ n) × (x ≡ y)
 start-dilation-unique width height sheet side bytes cap levels = rule-unique
+
+pub start-cropped-unique : (width height : ℕ) (sheet : List ℕ) (side : ℕ) (bytes : List ℕ) (cap : ℕ) (levels : List ℕ) (m n : ℕ)
+    (x y : Record × List ℕ)
+    → StartsCropped width height sheet side bytes cap levels m x → StartsCropped width height sheet side bytes cap levels n y
+    → (m ≡ n) × (x ≡ y)
+start-cropped-unique width height sheet side bytes cap levels = rule-unique

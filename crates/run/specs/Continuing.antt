@@ -30,6 +30,7 @@ withRows r rows = record {
   side = r .side;
   rows = rows;
   cells = r .cells;
+  edge = r .edge;
 }
 
 abbrev pub isDone : Record → Bool

@@ -1,25 +1,21 @@
 -- What collecting and thresholding a run answer.
-use Prim.Native.Nat.{ℕ, suc, _+_, _*_}
+use Prim.Native.Nat.{ℕ, _+_, _*_}
 use mathlib.Core.Path.{_≡_}
-use mathlib.Core.Bool.{Bool, not, cond, _&&_}
+use mathlib.Core.Bool.{not, cond}
 use mathlib.Core.List.{List, [], _∷_}
-use lib.Dec.{eqb, leb, ltb}
+use lib.Dec.{eqb, ltb}
 use lib.ListN.{length, getD}
-use Rattle.basics.specs.Limits.{largestSize}
 use Rattle.basics.specs.Refusals.{Refusal, Answers}
 use Rattle.basics.specs.Tables.{raster}
 use Rattle.sheet.specs.Sheets.{rowBytes, packed}
 use Rattle.run.specs.declared.Record.{Record}
-use Rattle.run.specs.Records.{isErosion, margin, areaWidth, recordBad}
+use Rattle.run.specs.Kinds.{collectedLevel, isHeldAt, sizeLimit}
+use Rattle.run.specs.Records.{margin, areaWidth, recordBad}
 use Rattle.run.specs.Continuing.{levelsWrong, isDone}
 
 -- the level at a row and a column of the frame
 abbrev pub frameLevel : Record → List ℕ → ℕ → ℕ → ℕ
 frameLevel r levels row col = getD levels ((row + margin r) * areaWidth r + (col + margin r)) 0
-
--- an erosion's levels are copied; of a dilation's, those above R + 1 are given as 0
-abbrev pub collectedLevel : Record → ℕ → ℕ
-collectedLevel r level = cond (isErosion r) level (cond (leb level (suc (r .cap))) level 0)
 
 unfoldable pub collected : Record → List ℕ → List ℕ
 collected r levels = raster (r .width) (r .height) (λ row col. collectedLevel r (frameLevel r levels row col))
@@ -33,15 +29,8 @@ collectRefusals r levels out =
 abbrev pub Collects : Record → List ℕ → List ℕ → ℕ → List ℕ → Type 0
 Collects r levels out = Answers (collectRefusals r levels out) out (λ after. after ≡ collected r levels)
 
--- at size n: levels greater than n for an erosion, levels 1 to n + 1 for a dilation
-abbrev pub isHeldAt : Record → ℕ → ℕ → Bool
-isHeldAt r n level = cond (isErosion r) (ltb n level) (leb 1 level && leb level (suc n))
-
 unfoldable pub thresholded : Record → List ℕ → ℕ → List ℕ
 thresholded r levels n = packed (r .width) (r .height) (λ row col. cond (isHeldAt r n (frameLevel r levels row col)) 1 0)
-
-abbrev pub sizeLimit : Record → ℕ
-sizeLimit r = cond (isErosion r) largestSize (r .cap)
 
 -- 8, 10, 11 and 13 of a picture at a size, with `room` entries lent of `wanted`
 abbrev pub releaseRefusals : Record → List ℕ → ℕ → ℕ → ℕ → List Refusal

@@ -8,9 +8,10 @@ use lib.ListN.{length}
 use Rattle.basics.specs.Refusals.{Refusal, Answers}
 use Rattle.sheet.specs.Sheets.{rowBytes}
 use Rattle.run.specs.declared.Record.{Record}
+use Rattle.run.specs.Kinds.{sizeLimit}
 use Rattle.run.specs.Records.{recordBad}
 use Rattle.run.specs.Continuing.{levelsWrong, isDone}
-use Rattle.run.specs.Pictures.{sizeLimit, thresholded}
+use Rattle.run.specs.Pictures.{thresholded}
 
 -- 8, 10 and 11 of levels read at a size, with `room` entries lent of `wanted`
 abbrev pub viewRefusals : Record → List ℕ → ℕ → ℕ → ℕ → List Refusal

@@ -6,7 +6,7 @@ use mathlib.Core.List.{List}
 use lib.ListN.{length}
 use Rattle.sheet.specs.SamePixels.{SamePixels}
 use Rattle.run.specs.declared.Record.{Record}
-use Rattle.run.specs.Starting.{StartsErosion, StartsDilation}
+use Rattle.run.specs.Starting.{StartsErosion, StartsDilation, StartsCropped}
 
 abbrev pub SameStarts : Type 0
 SameStarts =
@@ -15,4 +15,6 @@ SameStarts =
     (StartsErosion width height one side bytes lent m x → StartsErosion width height other side bytes lent n y
     → (m ≡ n) × (x ≡ y)) ×
     ((cap : ℕ) → StartsDilation width height one side bytes cap lent m x
-    → StartsDilation width height other side bytes cap lent n y → (m ≡ n) × (x ≡ y))
+    → StartsDilation width height other side bytes cap lent n y → (m ≡ n) × (x ≡ y)) ×
+    ((cap : ℕ) → StartsCropped width height one side bytes cap lent m x
+    → StartsCropped width height other side bytes cap lent n y → (m ≡ n) × (x ≡ y))

@@ -11,9 +11,10 @@ use Rattle.basics.specs.Refusals.{first}
 use Rattle.sheet.specs.Sheets.{rowBytes}
 use Rattle.scan.specs.Scan.{scanRows}
 use Rattle.run.specs.declared.Record.{Record}
+use Rattle.run.specs.Kinds.{sizeLimit}
 use Rattle.run.specs.Records.{areaOf, due}
-use Rattle.run.specs.Starting.{StartsErosion, StartsDilation}
-use Rattle.run.specs.Pictures.{sizeLimit, collectRefusals, thresholdRefusals}
+use Rattle.run.specs.Starting.{StartsErosion, StartsDilation, StartsCropped}
+use Rattle.run.specs.Pictures.{collectRefusals, thresholdRefusals}
 use Rattle.run.specs.Continuing.{State, Continues, withRows, isDone}
 
 -- a record and levels that an accepted start gives
@@ -22,6 +23,8 @@ pub data Started : Record → List ℕ → Type 0 where
       → StartsErosion width height sheet side bytes lent 0 (r, levels) → Started r levels
   dilation : (width height : ℕ) (sheet : List ℕ) (side : ℕ) (bytes : List ℕ) (cap : ℕ) (lent : List ℕ) {r : Record}
       {levels : List ℕ} → StartsDilation width height sheet side bytes cap lent 0 (r, levels) → Started r levels
+  cropped : (width height : ℕ) (sheet : List ℕ) (side : ℕ) (bytes : List ℕ) (cap : ℕ) (lent : List ℕ) {r : Record}
+      {levels : List ℕ} → StartsCropped width height sheet side bytes cap lent 0 (r, levels) → Started r levels
 
 abbrev pub atStart : Record → List ℕ → State
 atStart r levels = (r, isDone r, levels)

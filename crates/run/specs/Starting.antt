@@ -1,4 +1,4 @@
--- What starting an erosion and a dilation answers.
+-- What starting an erosion, a dilation and a cropped run answers.
 use Prim.Native.Nat.{ℕ, _+_, _-_, _*_}
 use mathlib.Core.Path.{_≡_}
 use mathlib.Core.Bool.{Bool, not, cond, _&&_, _||_}
@@ -11,24 +11,45 @@ use Rattle.basics.specs.Tables.{raster}
 use Rattle.element.specs.Elements.{elementRefusals}
 use Rattle.element.specs.Cells.{centred, flat}
 use Rattle.sheet.specs.Sheets.{pixel, sheetRefusals}
-use Rattle.row.specs.RowRule.{none}
 use Rattle.run.specs.declared.Record.{Record}
-use Rattle.run.specs.Records.{marginOf, canvasSide, noRecord, erosionKind, dilationKind}
+use Rattle.run.specs.Kinds.{Kind, eroding, dilating, cropping, kindNumber, edgeRule, beyondOf, onOf, offOf}
+use Rattle.run.specs.Records.{marginOf, margin, canvasSide, noRecord}
 
-abbrev pub startRecord : ℕ → ℕ → ℕ → ℕ → ℕ → List ℕ → Record
-startRecord kind width height cap side bytes =
-    record { kind = kind; width = width; height = height; cap = cap; side = side; rows = 0; cells = flat (centred side bytes) }
+-- the record of a start, by its kind and edge rule
+abbrev pub freshRecord : ℕ → ℕ → ℕ → ℕ → ℕ → ℕ → List ℕ → Record
+freshRecord kind edge width height cap side bytes = record {
+  kind = kind;
+  width = width;
+  height = height;
+  cap = cap;
+  side = side;
+  rows = 0;
+  cells = flat (centred side bytes);
+  edge = edge;
+}
 
--- the area's point at a row and a column is a foreground point of the frame
-unfoldable pub inked : ℕ → ℕ → ℕ → List ℕ → ℕ → ℕ → Bool
-inked width height margin sheet row col =
-    (leb margin row && ltb row (margin + height)) && (leb margin col && ltb col (margin + width)) &&
-    eqb (pixel width sheet (row - margin) (col - margin)) 1
+abbrev pub startRecord : Kind → ℕ → ℕ → ℕ → ℕ → List ℕ → Record
+startRecord kind = freshRecord (kindNumber kind) (edgeRule kind)
 
--- start levels: one value on the foreground, another elsewhere in the area
-unfoldable pub startLevels : ℕ → ℕ → ℕ → List ℕ → ℕ → ℕ → List ℕ
-startLevels width height margin sheet on off =
-    raster (canvasSide width margin) (canvasSide height margin) (λ row col. cond (inked width height margin sheet row col) on off)
+-- the area's point at a row and a column lies in the frame
+unfoldable pub framed : ℕ → ℕ → ℕ → ℕ → ℕ → Bool
+framed width height margin row col = (leb margin row && ltb row (margin + height)) && (leb margin col && ltb col (margin + width))
+
+-- the level that it starts with: one on the foreground, one on the frame's background, one in the margin
+abbrev pub startLevel : ℕ → ℕ → ℕ → List ℕ → ℕ → ℕ → ℕ → ℕ → ℕ → ℕ
+startLevel width height margin sheet on off outside row col =
+    cond (framed width height margin row col) (cond (eqb (pixel width sheet (row - margin) (col - margin)) 1) on off) outside
+
+unfoldable pub startArea : ℕ → ℕ → ℕ → List ℕ → ℕ → ℕ → ℕ → List ℕ
+startArea width height margin sheet on off outside =
+    raster (canvasSide width margin) (canvasSide height margin) (startLevel width height margin sheet on off outside)
+
+-- a run's start levels, by its kind, and the run with them
+abbrev pub startLevels : Record → List ℕ → List ℕ
+startLevels r sheet = startArea (r .width) (r .height) (margin r) sheet (onOf r) (offOf r) (beyondOf r)
+
+abbrev pub begun : Record → List ℕ → Record × List ℕ
+begun r sheet = (r, startLevels r sheet)
 
 -- starting an erosion: 2 3 4 5 6 7 10
 abbrev pub erosionRefusals : ℕ → ℕ → List ℕ → ℕ → List ℕ → List ℕ → List Refusal
@@ -39,7 +60,7 @@ erosionRefusals width height sheet side bytes levels =
 abbrev pub StartsErosion : ℕ → ℕ → List ℕ → ℕ → List ℕ → List ℕ → ℕ → Record × List ℕ → Type 0
 StartsErosion width height sheet side bytes levels =
     Answers (erosionRefusals width height sheet side bytes levels) (noRecord, levels)
-    (λ after. after ≡ (startRecord erosionKind width height 0 side bytes, startLevels width height 0 sheet none 0))
+    (λ after. after ≡ begun (startRecord eroding width height 0 side bytes) sheet)
 
 -- the canvas of a cap: a side above 4,096, and its size
 abbrev pub canvasWrong : ℕ → ℕ → ℕ → ℕ → Bool
@@ -64,7 +85,10 @@ dilationRefusals width height sheet side bytes cap levels =
 abbrev pub StartsDilation : ℕ → ℕ → List ℕ → ℕ → List ℕ → ℕ → List ℕ → ℕ → Record × List ℕ → Type 0
 StartsDilation width height sheet side bytes cap levels =
     Answers (dilationRefusals width height sheet side bytes cap levels) (noRecord, levels)
-    (λ after. after ≡ (
-      startRecord dilationKind width height cap side bytes,
-      startLevels width height (marginOf cap side) sheet 1 none,
-    ))
+    (λ after. after ≡ begun (startRecord dilating width height cap side bytes) sheet)
+
+-- refused as a dilation; 1 on the frame's background and 65,535 elsewhere on the canvas
+abbrev pub StartsCropped : ℕ → ℕ → List ℕ → ℕ → List ℕ → ℕ → List ℕ → ℕ → Record × List ℕ → Type 0
+StartsCropped width height sheet side bytes cap levels =
+    Answers (dilationRefusals width height sheet side bytes cap levels) (noRecord, levels)
+    (λ after. after ≡ begun (startRecord cropping width height cap side bytes) sheet)

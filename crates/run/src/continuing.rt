@@ -76,6 +76,7 @@ fn with_rows(run: Record, rows: usize) -> Record
         side: run.side,
         rows,
         cells,
+        edge: run.edge,
     }
 }
 

@@ -1,6 +1,7 @@
 // Pictures of a finished run: its levels collected, and the sheet that it holds at a size; and how both, and a look, are judged and packed.
 use super::Record;
 use super::kinds;
+use super::kinds::Reading;
 use super::records;
 ghost use mathlib.Core.Path.{_≡_};
 ghost use mathlib.Core.Bool.{false};
@@ -11,46 +12,49 @@ ghost use Rattle.basics.specs.Refusals.{first};
 ghost use Rattle.basics.specs.Tables.{raster};
 ghost use Rattle.sheet.specs.Sheets.{rowBytes, packedByte, packed};
 ghost use Rattle.run.specs.Records.{recordBad};
-ghost use Rattle.run.specs.Patches.{Patch, Canvas, levelIn, limitedTo, heldBetween};
+ghost use Rattle.run.specs.Patches.{Patch, Canvas, levelIn, readAs, heldBetween};
 ghost use Rattle.run.specs.Pictures.{thresholded, Collects, Thresholds};
 ghost use Rattle.run.specs.Provisional.{viewRefusals, provisionalRefusals};
 
-// The level, or 0 where it is above the limit.
-fn limited(level: u16, limit: u16) -> u16
-    ensures { λ r. ⌜ r ≡ limitedTo limit level ⌝ }
+// The level as it is read.
+fn read_as(level: u16, reading: Reading) -> u16
+    ensures { λ r. ⌜ r ≡ readAs reading level ⌝ }
 {
-    if level <= limit {
-        return level;
+    if reading.limit < level {
+        return reading.other;
     }
-    0
+    if level < reading.less {
+        return 0;
+    }
+    level - reading.less
 }
 
-// The `n` levels from `from` on go to the places from `at` on, each within the limit.
-fn copy_row(levels: &[u16], from: usize, n: usize, limit: u16, out: &mut [u16], at: usize)
+// The `n` levels from `from` on go to the places from `at` on, each as it is read.
+fn copy_row(levels: &[u16], from: usize, n: usize, reading: Reading, out: &mut [u16], at: usize)
     requires { ⌜ (from + n ≤ length (now levels)) × (at + n ≤ length (now out)) ⌝ }
-    ensures { λ _. ⌜ Patch at n (λ i. limitedTo limit (getD (now (levels .entry)) (from + i) 0)) (now (out .entry))
+    ensures { λ _. ⌜ Patch at n (λ i. readAs reading (getD (now (levels .entry)) (from + i) 0)) (now (out .entry))
         (now (out .exit)) ⌝ }
 {
     let mut i = 0;
     while i < n {
-        let level = limited(levels[from + i], limit);
+        let level = read_as(levels[from + i], reading);
         out[at + i] = level;
         i += 1;
     }
 }
 
-// The frame's part of the levels, each within the limit.
+// The frame's part of the levels, each as it is read.
 fn copy_frame(
     levels: &[u16],
     width: usize,
     height: usize,
     margin: usize,
-    limit: u16,
+    reading: Reading,
     out: &mut [u16],
 )
     requires { ⌜ Canvas width height margin (now levels) × (length (now out) ≡ height * width) ⌝ }
     ensures { λ _. ⌜ now (out .exit)
-        ≡ raster width height (λ row col. limitedTo limit (levelIn width margin (now (levels .entry)) row col)) ⌝ }
+        ≡ raster width height (λ row col. readAs reading (levelIn width margin (now (levels .entry)) row col)) ⌝ }
 {
     let side = width + (margin + margin);
     let mut row = 0;
@@ -59,7 +63,7 @@ fn copy_frame(
             levels,
             (row + margin) * side + margin,
             width,
-            limit,
+            reading,
             out,
             row * width,
         );
@@ -99,8 +103,8 @@ pub fn collect(run: Record, levels: &[u16], out: &mut [u16]) -> u32
         return 13;
     }
     let margin = records::margin_of(run.cap, run.side);
-    let limit = kinds::collected_limit(run);
-    copy_frame(levels, run.width, run.height, margin, limit, out);
+    let reading = kinds::reading_of(run);
+    copy_frame(levels, run.width, run.height, margin, reading, out);
     0
 }
 
@@ -137,11 +141,16 @@ fn last_byte(levels: &[u16], from: usize, width: usize, low: u16, high: u16) -> 
     ensures { λ r. ⌜ r ≡ packedByte width (λ col. heldBetween low high (getD (now (levels .entry)) (from + col) 0)) (width / 8) ⌝ }
 {
     let mut eight = [0u16; 8];
+    let as_is = Reading {
+        limit: row::NONE,
+        less: 0,
+        other: 0,
+    };
     copy_row(
         levels,
         from + width / 8 * 8,
         width % 8,
-        row::NONE,
+        as_is,
         &mut eight,
         0,
     );

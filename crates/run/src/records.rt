@@ -7,8 +7,8 @@ ghost use Prim.Native.Nat.{_≤_};
 ghost use Rattle.basics.specs.Limits.{longestSide, highestCap, mostRows};
 ghost use Rattle.element.specs.Elements.{isSide};
 ghost use Rattle.element.specs.Cells.{isHeld};
-ghost use Rattle.run.specs.Records.{marginOf, areaWidth, areaHeight, due, outside, anyOutside, elementForeign, capForeign};
-ghost use Rattle.run.specs.Records.{foreign, recordBad, noRecord};
+ghost use Rattle.run.specs.Records.{marginOf, areaWidth, areaHeight, due, outside, anyOutside, elementForeign, kindForeign};
+ghost use Rattle.run.specs.Records.{capForeign, foreign, recordBad, noRecord};
 ghost use Rattle.run.specs.Continuing.{levelsWrong, isDone};
 
 // Whether place `p` of seven is one of the side's, centred among the seven.
@@ -78,18 +78,28 @@ pub fn margin_of(cap: usize, side: usize) -> usize
     cap * ((side - 1) / 2)
 }
 
-// Whether no start takes the kind with the cap, on the canvas that they give.
+// Whether no start gives the kind with the edge rule, or a plain erosion with a cap.
+fn kind_foreign(run: Record) -> bool
+    ensures { λ r. ⌜ r ≡ kindForeign run ⌝ }
+{
+    if run.kind == kinds::EROSION {
+        if run.edge == kinds::BACKGROUND {
+            return run.cap != 0;
+        }
+        return run.edge != kinds::FOREGROUND;
+    }
+    if run.kind != kinds::DILATION {
+        return true;
+    }
+    run.edge != kinds::BACKGROUND
+}
+
+// Whether no start takes the cap, on the canvas that it gives.
 fn cap_foreign(run: Record) -> bool
     requires { ⌜ (isSide (run .side) ≡ true) × ((run .width ≤ longestSide) × (run .height ≤ longestSide)) ⌝ }
     ensures { λ r. ⌜ r ≡ capForeign run ⌝ }
 {
     let cap = run.cap;
-    if kinds::is_erosion(run) {
-        return cap != 0;
-    }
-    if run.kind != kinds::DILATION {
-        return true;
-    }
     if basics::HIGHEST_CAP < cap {
         return true;
     }
@@ -112,6 +122,9 @@ fn record_foreign(run: Record) -> bool
     }
     let cells = run.cells;
     if element_foreign(run.side, cells) {
+        return true;
+    }
+    if kind_foreign(run) {
         return true;
     }
     cap_foreign(run)
@@ -182,5 +195,6 @@ pub fn no_record() -> Record
         side: 0,
         rows: 0,
         cells,
+        edge: 0,
     }
 }

@@ -1,4 +1,4 @@
-// Starting a run: the two kinds judge their inputs, fill the levels, and make the record.
+// Starting a run: the three starts judge their inputs, make the record, and fill the levels by it.
 use super::Record;
 use super::kinds;
 use super::records;
@@ -9,12 +9,12 @@ ghost use Prim.Native.Nat.{_+_, _*_, _<_, _≤_};
 ghost use lib.Dec.{eqb};
 ghost use lib.ListN.{length};
 ghost use Rattle.basics.specs.Limits.{longestSide, highestCap};
-ghost use Rattle.basics.specs.Refusals.{first};
+ghost use Rattle.basics.specs.Refusals.{first, Answers};
 ghost use Rattle.element.specs.Elements.{isSide, elementRefusals};
 ghost use Rattle.sheet.specs.Sheets.{pixel, rowBytes, sheetRefusals};
-ghost use Rattle.run.specs.Records.{canvasSide, noRecord};
-ghost use Rattle.run.specs.Starting.{startRecord, inked, startLevels, erosionRefusals, StartsErosion, canvasRefusals};
-ghost use Rattle.run.specs.Starting.{dilationRefusals, StartsDilation};
+ghost use Rattle.run.specs.Records.{margin, canvasSide, noRecord};
+ghost use Rattle.run.specs.Starting.{freshRecord, startLevel, startArea, startLevels, begun, erosionRefusals, StartsErosion};
+ghost use Rattle.run.specs.Starting.{canvasRefusals, dilationRefusals, StartsDilation, StartsCropped};
 ghost use Rattle.run.specs.Patches.{Patch, Canvas};
 
 // What a start answers: the refusal number, 0 where it is accepted, and the run's record, all zero beside a refusal.
@@ -35,7 +35,7 @@ pub fn fill_level(levels: &mut [u16], at: usize, n: usize, level: u16)
     }
 }
 
-// `one` where a number is 1, as a pixel of the foreground and the kind of an erosion are, else `other`.
+// `one` where a number is 1, as a pixel of the foreground is, else `other`.
 pub fn where_one(number: u8, one: u16, other: u16) -> u16
     ensures { λ r. ⌜ r ≡ cond (eqb number 1) one other ⌝ }
 {
@@ -68,7 +68,7 @@ fn fill_pixels(
     }
 }
 
-// A row of the area: off the frame all is `off`; else the left margin, the pixels, the right margin.
+// A row of the area: off the frame all is `outside`; else the left margin, the pixels, the right margin.
 fn fill_row(
     levels: &mut [u16],
     width: usize,
@@ -78,29 +78,29 @@ fn fill_row(
     row: usize,
     on: u16,
     off: u16,
+    outside: u16,
 )
     requires { ⌜ Canvas width height margin (now levels) ×
         ((length (now sheet) ≡ height * rowBytes width) × (row < canvasSide height margin)) ⌝ }
     ensures { λ _. ⌜ Patch (row * canvasSide width margin) (canvasSide width margin)
-        (λ col. cond (inked width height margin (now (sheet .entry)) row col) on off) (now (levels .entry))
-        (now (levels .exit)) ⌝ }
+        (startLevel width height margin (now (sheet .entry)) on off outside row) (now (levels .entry)) (now (levels .exit)) ⌝ }
 {
     let side = width + (margin + margin);
     let at = row * side;
     if row < margin {
-        fill_level(levels, at, side, off);
+        fill_level(levels, at, side, outside);
         return;
     }
     if margin + height <= row {
-        fill_level(levels, at, side, off);
+        fill_level(levels, at, side, outside);
         return;
     }
-    fill_level(levels, at, margin, off);
+    fill_level(levels, at, margin, outside);
     fill_pixels(levels, at + margin, width, sheet, row - margin, on, off);
-    fill_level(levels, at + margin + width, margin, off);
+    fill_level(levels, at + margin + width, margin, outside);
 }
 
-// The start levels of either kind: `on` on the foreground, `off` elsewhere in the area.
+// The start levels: `on` on the foreground, `off` on the frame's background, `outside` in the margin.
 fn fill_area(
     levels: &mut [u16],
     width: usize,
@@ -109,19 +109,42 @@ fn fill_area(
     sheet: &[u8],
     on: u16,
     off: u16,
+    outside: u16,
 )
     requires { ⌜ Canvas width height margin (now levels) × (length (now sheet) ≡ height * rowBytes width) ⌝ }
-    ensures { λ _. ⌜ now (levels .exit) ≡ startLevels width height margin (now (sheet .entry)) on off ⌝ }
+    ensures { λ _. ⌜ now (levels .exit) ≡ startArea width height margin (now (sheet .entry)) on off outside ⌝ }
 {
     let rows = height + (margin + margin);
     let mut row = 0;
     while row < rows {
-        fill_row(levels, width, height, margin, sheet, row, on, off);
+        fill_row(levels, width, height, margin, sheet, row, on, off, outside);
         row += 1;
     }
 }
 
-// Refusals 2 to 7, which both kinds have, or 0.
+// The start levels of a run, by its kind.
+fn fill_levels(run: Record, sheet: &[u8], levels: &mut [u16])
+    requires { ⌜ (isSide (run .side) ≡ true) × ((run .cap ≤ highestCap) ×
+        (Canvas (run .width) (run .height) (margin run) (now levels) × (length (now sheet) ≡ run .height * rowBytes (run .width)))) ⌝ }
+    ensures { λ _. ⌜ now (levels .exit) ≡ startLevels run (now (sheet .entry)) ⌝ }
+{
+    let margin = records::margin_of(run.cap, run.side);
+    let on = kinds::on_of(run);
+    let off = kinds::off_of(run);
+    let outside = kinds::beyond_of(run);
+    fill_area(
+        levels,
+        run.width,
+        run.height,
+        margin,
+        sheet,
+        on,
+        off,
+        outside,
+    );
+}
+
+// Refusals 2 to 7, which all starts have, or 0.
 pub fn start_refusal(width: usize, height: usize, sheet: &[u8], side: usize, bytes: &[u8]) -> u32
     ensures { λ r. ⌜ r ≡ first (sheetRefusals width height (now (sheet .entry)) ++ elementRefusals side (now (bytes .entry))) ⌝ }
 {
@@ -174,7 +197,7 @@ pub fn erosion_refusal(
     0
 }
 
-// Refusals 2 to 10 of a dilation, or 0.
+// Refusals 2 to 10 of a dilation, and of a cropped sheet's erosion, or 0.
 pub fn dilation_refusal(
     width: usize,
     height: usize,
@@ -208,24 +231,29 @@ fn refused(number: u32) -> Started
     }
 }
 
-// The answer of an accepted start, with no rows done.
-fn begun(kind: u8, width: usize, height: usize, cap: usize, side: usize, bytes: &[u8]) -> Started
+// The record of an accepted start, with no rows done.
+fn fresh_record(
+    kind: u8,
+    edge: u8,
+    width: usize,
+    height: usize,
+    cap: usize,
+    side: usize,
+    bytes: &[u8],
+) -> Record
     requires { ⌜ (isSide side ≡ true) × (length (now bytes) ≡ side * side) ⌝ }
-    ensures { λ r. ⌜ (r .refusal ≡ 0) × (r .run ≡ startRecord kind width height cap side (now (bytes .entry))) ⌝ }
+    ensures { λ r. ⌜ r ≡ freshRecord kind edge width height cap side (now (bytes .entry)) ⌝ }
 {
     let cells = element::flat_cells(element::cells_of(side, bytes));
-    let run = Record {
-        kind: kind,
-        width: width,
-        height: height,
-        cap: cap,
-        side: side,
+    Record {
+        kind,
+        width,
+        height,
+        cap,
+        side,
         rows: 0,
-        cells: cells,
-    };
-    Started {
-        refusal: 0,
-        run: run,
+        cells,
+        edge,
     }
 }
 
@@ -245,8 +273,44 @@ pub fn start_erosion(
     if refusal != 0 {
         return refused(refusal);
     }
-    fill_area(levels, width, height, 0, sheet, row::NONE, 0);
-    begun(kinds::EROSION, width, height, 0, side, bytes)
+    let run = fresh_record(
+        kinds::EROSION,
+        kinds::BACKGROUND,
+        width,
+        height,
+        0,
+        side,
+        bytes,
+    );
+    fill_levels(run, sheet, levels);
+    Started { refusal: 0, run }
+}
+
+// A start on the canvas of a cap, with a kind and an edge rule: a dilation's, and a cropped sheet's. Refusals 2 to 10.
+pub fn start_on_canvas(
+    kind: u8,
+    edge: u8,
+    width: usize,
+    height: usize,
+    sheet: &[u8],
+    side: usize,
+    bytes: &[u8],
+    cap: usize,
+    levels: &mut [u16],
+) -> Started
+    ensures { λ r. ⌜ Answers
+        (dilationRefusals width height (now (sheet .entry)) side (now (bytes .entry)) cap (now (levels .entry)))
+        (noRecord, now (levels .entry))
+        (λ after. after ≡ begun (freshRecord kind edge width height cap side (now (bytes .entry))) (now (sheet .entry)))
+        (r .refusal) (r .run, now (levels .exit)) ⌝ }
+{
+    let refusal = dilation_refusal(width, height, sheet, side, bytes, cap, levels);
+    if refusal != 0 {
+        return refused(refusal);
+    }
+    let run = fresh_record(kind, edge, width, height, cap, side, bytes);
+    fill_levels(run, sheet, levels);
+    Started { refusal: 0, run }
 }
 
 // Public: starts a dilation on the canvas, its levels 1 on the foreground and 65,535 elsewhere. Refusals 2 to 10.
@@ -262,11 +326,42 @@ pub fn start_dilation(
     ensures { λ r. ⌜ StartsDilation width height (now (sheet .entry)) side (now (bytes .entry)) cap (now (levels .entry))
         (r .refusal) (r .run, now (levels .exit)) ⌝ }
 {
-    let refusal = dilation_refusal(width, height, sheet, side, bytes, cap, levels);
-    if refusal != 0 {
-        return refused(refusal);
-    }
-    let margin = records::margin_of(cap, side);
-    fill_area(levels, width, height, margin, sheet, 1, row::NONE);
-    begun(kinds::DILATION, width, height, cap, side, bytes)
+    start_on_canvas(
+        kinds::DILATION,
+        kinds::BACKGROUND,
+        width,
+        height,
+        sheet,
+        side,
+        bytes,
+        cap,
+        levels,
+    )
+}
+
+// Public: starts the erosion of a cropped sheet, with foreground beyond the frame, its levels 1 on the frame's background and 65,535
+// elsewhere on the canvas. Refusals 2 to 10.
+pub fn start_cropped(
+    width: usize,
+    height: usize,
+    sheet: &[u8],
+    side: usize,
+    bytes: &[u8],
+    cap: usize,
+    levels: &mut [u16],
+) -> Started
+    ensures { λ r. ⌜ StartsCropped width height (now (sheet .entry)) side (now (bytes .entry)) cap (now (levels .entry))
+        (r .refusal) (r .run, now (levels .exit)) ⌝ }
+{
+    start_on_canvas(
+        kinds::EROSION,
+        kinds::FOREGROUND,
+        width,
+        height,
+        sheet,
+        side,
+        bytes,
+        cap,
+        levels,
+    )
 }

@@ -5,6 +5,7 @@
 pub enum Name {
     StartErosion,
     StartDilation,
+    StartCropped,
     Continue,
     Collect,
     Threshold,
@@ -35,9 +36,10 @@ pub enum Field {
 }
 
 impl Name {
-    pub const ALL: [Name; 14] = [
+    pub const ALL: [Name; 15] = [
         Name::StartErosion,
         Name::StartDilation,
+        Name::StartCropped,
         Name::Continue,
         Name::Collect,
         Name::Threshold,
@@ -56,6 +58,7 @@ impl Name {
         match self {
             Name::StartErosion => "wt_start_erosion",
             Name::StartDilation => "wt_start_dilation",
+            Name::StartCropped => "wt_start_cropped",
             Name::Continue => "wt_continue",
             Name::Collect => "wt_collect",
             Name::Threshold => "wt_threshold",
@@ -76,7 +79,7 @@ impl Name {
     pub fn refusals(self) -> &'static [u32] {
         match self {
             Name::StartErosion => &[2, 3, 4, 5, 6, 7, 10, 11],
-            Name::StartDilation => &[2, 3, 4, 5, 6, 7, 8, 9, 10, 11],
+            Name::StartDilation | Name::StartCropped => &[2, 3, 4, 5, 6, 7, 8, 9, 10, 11],
             Name::Continue => &[1, 10, 11, 12],
             Name::Collect => &[1, 10, 11, 13],
             Name::Threshold => &[1, 8, 10, 11, 13],
@@ -97,7 +100,9 @@ impl Name {
             BytesOut, Cells, File, Levels, LevelsOut, Record, Sheet, WordsOut, WorkA, WorkB,
         };
         match self {
-            Name::StartErosion | Name::StartDilation => &[Sheet, Cells, Levels, WordsOut],
+            Name::StartErosion | Name::StartDilation | Name::StartCropped => {
+                &[Sheet, Cells, Levels, WordsOut]
+            }
             Name::Continue => &[Record, Levels, WordsOut],
             Name::Collect => &[Record, Levels, LevelsOut],
             Name::Threshold => &[Record, Levels, BytesOut],
@@ -127,6 +132,7 @@ impl Name {
         matches!(
             self,
             Name::StartDilation
+                | Name::StartCropped
                 | Name::Continue
                 | Name::Threshold
                 | Name::Provisional
@@ -140,7 +146,7 @@ impl Name {
     pub fn takes_cap(self) -> bool {
         matches!(
             self,
-            Name::StartDilation | Name::Close | Name::ClosingLevels
+            Name::StartDilation | Name::StartCropped | Name::Close | Name::ClosingLevels
         )
     }
 }

@@ -9,6 +9,9 @@ const T: [u8; 9] = [0, 0, 0, 0, 1, 1, 0, 0, 0];
 const CROSS: [u8; 9] = [0, 1, 0, 1, 1, 1, 0, 1, 0];
 const BOX: [u8; 9] = [1; 9];
 
+/// A sheet with its centre unset.
+const RING: [&str; 3] = ["111", "101", "111"];
+
 /// A sheet of rows drawn with `1` and `0`.
 struct Drawn {
     width: u64,
@@ -70,7 +73,7 @@ fn given(name: Name, sheet: &Drawn, cells: &[u8], number: u64) -> Call {
         (Field::WorkB, area),
         (Field::BytesOut, sheet.bytes.len()),
         (Field::LevelsOut, frame),
-        (Field::WordsOut, 55),
+        (Field::WordsOut, 56),
     ] {
         if name.fields().contains(&field) {
             call.set_length(field, length);
@@ -144,12 +147,21 @@ fn dilation(sheet: &Drawn, cells: &[u8], cap: u64) -> Vec<u16> {
     collected(&given(Name::StartDilation, sheet, cells, cap))
 }
 
+fn cropped(sheet: &Drawn, cells: &[u8], cap: u64) -> Vec<u16> {
+    collected(&given(Name::StartCropped, sheet, cells, cap))
+}
+
+/// The number and the sheet of one size, after all rows.
+fn thresholded(start: &Call, size: u64) -> (u32, Vec<u8>) {
+    let (record, levels) = worked(start, 8192);
+    let answer = (Field::BytesOut, start.sheet.len());
+    let (number, after) =
+        number_and_after(&on_run(Name::Threshold, &record, &levels, size, answer));
+    (number, after.bytes_out)
+}
+
 fn threshold(sheet: &Drawn, cells: &[u8], size: u64) -> Vec<u8> {
-    let (record, levels) = worked(&given(Name::StartErosion, sheet, cells, 0), 8192);
-    let answer = (Field::BytesOut, sheet.bytes.len());
-    number_and_after(&on_run(Name::Threshold, &record, &levels, size, answer))
-        .1
-        .bytes_out
+    thresholded(&given(Name::StartErosion, sheet, cells, 0), size).1
 }
 
 fn levels_of(name: Name, sheet: &Drawn, cells: &[u8], cap: u64) -> Vec<u16> {
@@ -270,12 +282,56 @@ fn points_lowered() -> bool {
     let dilated = given(Name::StartDilation, &blank, &CROSS, 1);
     // The point's canvas is 3 by 3, the point in its middle: row by row its neighbours fall, below right and below first.
     let point = given(Name::StartDilation, &drawn(&["1"]), &CROSS, 1);
+    // A cropped run's canvas is 5 by 5, the unset centre in its middle.
+    let ring = given(Name::StartCropped, &drawn(&RING), &CROSS, 1);
+    let crop = given(Name::StartCropped, &drawn(&["111"; 3]), &CROSS, 1);
     lowered(&full, &[1; 6]) == [3, 3, 3, 2, 1, 0]
         && lowered(&full, &[2, 0, 4]) == [6, 0, 6]
         && lowered(&full, &[8192]) == [12]
         && lowered(&eroded, &[3, 3]) == [0, 0]
         && lowered(&dilated, &[8192]) == [0]
         && lowered(&point, &[1; 6]) == [0, 1, 2, 1, 1, 3]
+        && lowered(&ring, &[1; 10]) == [0, 0, 2, 3, 3, 2, 2, 2, 5, 5]
+        && lowered(&crop, &[8192]) == [0]
+}
+
+/// Foreground beyond the frame: nothing is eaten from the border, and 65,535 is more than the cap.
+fn crops() -> bool {
+    let ring = drawn(&RING);
+    let row = drawn(&["11011"]);
+    cropped(&full(3, 3), &CROSS, 2) == [65535; 9]
+        && cropped(&ring, &CROSS, 2) == [2, 1, 2, 1, 0, 1, 2, 1, 2]
+        && cropped(&ring, &CROSS, 1) == [65535, 1, 65535, 1, 0, 1, 65535, 1, 65535]
+        && cropped(&ring, &CROSS, 0) == [65535, 65535, 65535, 65535, 0, 65535, 65535, 65535, 65535]
+        && cropped(&drawn(&["000", "000"]), &CROSS, 2) == [0; 6]
+        && cropped(&row, &T, 2) == [2, 1, 0, 65535, 65535]
+        && cropped(&row, &T, 1) == [65535, 1, 0, 65535, 65535]
+}
+
+/// The lower point is met by way of beyond the frame, in two steps.
+fn crops_beyond_the_frame() -> bool {
+    let sheet = drawn(&["1", "0"]);
+    let element = [0, 0, 0, 1, 1, 0, 0, 0, 1];
+    cropped(&sheet, &element, 2) == [2, 0] && cropped(&sheet, &element, 1) == [65535, 0]
+}
+
+fn sheets_of_crops() -> bool {
+    let start = given(Name::StartCropped, &drawn(&RING), &CROSS, 2);
+    thresholded(&start, 0) == (0, drawn(&RING).bytes)
+        && thresholded(&start, 1) == (0, drawn(&["101", "000", "101"]).bytes)
+        && thresholded(&start, 2) == (0, drawn(&["000", "000", "000"]).bytes)
+        && thresholded(&start, 3).0 == 8
+}
+
+fn levels_of_crops_printed() -> bool {
+    let (record, _) = worked(&given(Name::StartCropped, &drawn(&RING), &CROSS, 1), 8192);
+    let text = b"P2\n# rows 10 of 10\n3 3\n65535\n65535 1 65535\n1 0 1\n65535 1 65535\n";
+    let levels = [65535, 1, 65535, 1, 0, 1, 65535, 1, 65535];
+    let answer = (Field::BytesOut, text.len());
+    let mut call = on_run(Name::WritePgm, &record, &levels, 0, answer);
+    call.set_length(Field::WordsOut, 1);
+    let (number, after) = number_and_after(&call);
+    number == 0 && after.bytes_out == text && after.words_out == [text.len() as u64]
 }
 
 /// The largest sheet, full, with the box: the level is the distance to the nearest border.
@@ -310,6 +366,18 @@ fn largest_dilation() -> bool {
         })
 }
 
+/// The widest canvas of a cropped run, a row of 2,050 with the cap 1,023: only its last point is unset.
+fn longest_crop() -> bool {
+    let mut row = full(2050, 1);
+    row.bytes[256] = 0x80;
+    let levels = cropped(&row, &T, 1023);
+    levels.len() == 2050
+        && levels.iter().rev().enumerate().all(|(steps, level)| {
+            // As many steps as lead to the unset point, where the cap has so many.
+            usize::from(*level) == if steps <= 1023 { steps } else { 65535 }
+        })
+}
+
 /// A full row of 4,096 with its right neighbour: every opening up to size 4,095 holds all of it.
 fn longest_opening() -> bool {
     let sheet = full(4096, 1);
@@ -324,7 +392,7 @@ fn longest_opening() -> bool {
 
 type Case = (&'static str, fn() -> bool);
 
-const CASES: [Case; 14] = [
+const CASES: [Case; 19] = [
     ("case 1: full 3 by 3, cross", case_1),
     ("case 2: full 5 by 1, right neighbour", case_2),
     ("case 3: the same, reflected", case_3),
@@ -336,8 +404,13 @@ const CASES: [Case; 14] = [
     ("case 9: the ends of the ranges", case_9),
     ("case 10: padding bits", case_10),
     ("points lowered, and blank slices", points_lowered),
+    ("crops: levels by hand, and more than the cap", crops),
+    ("crops: by way of beyond the frame", crops_beyond_the_frame),
+    ("crops: sheets of sizes up to the cap", sheets_of_crops),
+    ("crops: levels printed", levels_of_crops_printed),
     ("largest frame: erosion of 4,096 by 4,096", largest_erosion),
     ("largest canvas: dilation with cap 2,047", largest_dilation),
+    ("longest crop: a row of 2,050 with cap 1,023", longest_crop),
     ("longest opening: sizes up to 4,096", longest_opening),
 ];
 

@@ -2,12 +2,13 @@
 
 use crate::call::{Call, Field, Name};
 use crate::damage::damage;
-use crate::definitions;
 use crate::dice::Dice;
+use crate::kinds::Kind;
 use crate::looks::{check_looks, Cuts};
+use crate::pictures;
 use crate::raw::perform;
 use crate::report::{describe, describe_difference, Tally};
-use crate::rules::{due_length, element_set, frame_points, judge, pack, sheet_set, Record};
+use crate::rules::{due_length, judge, pack, sheet_set, Record};
 use crate::shrink::shrink;
 use crate::sound::{allowance, sound_call, Scale};
 
@@ -141,9 +142,10 @@ pub fn check_series(tally: &mut Tally, dice: &mut Dice, start: &Call) {
 }
 
 fn canvas_width(start: &Call) -> u64 {
-    match start.name {
-        Name::StartDilation => start.width + start.number * (start.side - 1),
-        _ => start.width,
+    if start.name.takes_cap() {
+        start.width + start.number * (start.side - 1)
+    } else {
+        start.width
     }
 }
 
@@ -162,35 +164,25 @@ fn compare_run(start: &Call) -> Result<(), String> {
     let collect = call_on_run(Name::Collect, &finished.record, &finished.levels, 0);
     let (number, collected) = perform(&collect)?;
 
-    let points = frame_points(start.width, start.height);
-    let sheet = sheet_set(start.width, start.height, &start.sheet);
-    let element = element_set(start.side, &start.cells);
-    let dilation = start.name == Name::StartDilation;
-    let expected = if dilation {
-        definitions::dilation_levels(&sheet, &element, start.number, &points)
-    } else {
-        definitions::erosion_levels(&sheet, &element, &points)
-    };
+    let expected = pictures::levels(start);
     if number != 0 || collected.levels_out != expected {
         return Err(format!(
             "    number {number}\n    by the definitions {expected:?}\n    collected          {:?}\n",
             collected.levels_out
         ));
     }
-    let largest = if dilation { start.number } else { 7 };
+    let largest = if start.name.takes_cap() {
+        start.number
+    } else {
+        7
+    };
     for size in [0, 1, 2, largest] {
         if size > largest {
             continue;
         }
         let threshold = call_on_run(Name::Threshold, &finished.record, &finished.levels, size);
         let (number, thresholded) = perform(&threshold)?;
-        let set = if dilation {
-            definitions::dilated(&sheet, &element, size)
-        } else {
-            definitions::eroded(&sheet, &element, size)
-        };
-        let flags: Vec<bool> = points.iter().map(|point| set.holds(*point)).collect();
-        let expected = pack(start.width, &flags);
+        let expected = pack(start.width, &pictures::held(start, size));
         if number != 0 || thresholded.bytes_out != expected {
             return Err(format!(
                 "    number {number}\n    size {size} by the definitions {expected:?}\n    thresholded {:?}\n",
@@ -203,11 +195,7 @@ fn compare_run(start: &Call) -> Result<(), String> {
 
 /// The tests that a whole run counts for.
 fn run_tests(start: &Call) -> Vec<String> {
-    let kind = if start.name == Name::StartDilation {
-        "dilation"
-    } else {
-        "erosion"
-    };
+    let kind = Kind::started_by(start.name).expect("a start").name();
     let mut tests = vec![format!(
         "{kind} runs, side {}, equal the definitions",
         start.side
@@ -246,10 +234,10 @@ pub fn check_run(tally: &mut Tally, start: &Call) {
     }
 }
 
-/// Works runs of both kinds, whole and in slices.
+/// Works runs of all kinds, whole and in slices.
 pub fn check_runs(tally: &mut Tally, dice: &mut Dice, scale: Scale) {
-    for name in [Name::StartErosion, Name::StartDilation] {
-        let start = sound_call(dice, name, scale);
+    for kind in Kind::ALL {
+        let start = sound_call(dice, kind.start(), scale);
         check_run(tally, &start);
         check_series(tally, dice, &start);
         check_looks(tally, &start, Cuts::Random(dice.word()));

@@ -2,7 +2,7 @@
 
 use crate::call::{Call, Field, Name};
 use crate::dice::Dice;
-use crate::rules::Record;
+use crate::rules::{Record, EDGE_RULE};
 
 /// Damages a call in one way. What comes of it (another refusal, or none) is for the rules to judge.
 pub fn damage(dice: &mut Dice, call: &mut Call) {
@@ -129,7 +129,7 @@ fn damage_number(dice: &mut Dice, call: &mut Call) {
         u64::MAX,
     ]);
     if matches!(call.name, Name::Threshold | Name::Provisional) && dice.percent(30) {
-        // Just above the cap of a dilation.
+        // Just above the range: for most kinds of run, above the cap.
         if let Some(record) = Record::read(&call.record) {
             call.number = record.most_size() + 1;
         }
@@ -161,10 +161,10 @@ fn damage_record(dice: &mut Dice, call: &mut Call) {
     if call.record.len() < 6 {
         return;
     }
-    let word = if dice.percent(60) {
-        dice.index(6)
-    } else {
-        dice.index(call.record.len())
+    let word = match dice.below(10) {
+        0..=4 => dice.index(6),
+        5 | 6 => EDGE_RULE.min(call.record.len() - 1),
+        _ => dice.index(call.record.len()),
     };
     let old = call.record[word];
     call.record[word] = match word {
@@ -176,11 +176,11 @@ fn damage_record(dice: &mut Dice, call: &mut Call) {
             1 => old.saturating_sub(1),
             _ => edge_side(dice),
         },
-        _ => dice.pick(&[0, 1, 2, 256, 257, 1 << 32, u64::MAX]),
+        _ => dice.pick(&[0, 1, 2, 255, 256, 257, 1 << 32, (1 << 32) + 1, u64::MAX]),
     };
-    if dice.percent(8) && call.record.len() > 30 {
+    if dice.percent(8) && call.record.len() > EDGE_RULE {
         // The element's centre alone, or nothing at all.
-        call.record[6..].fill(0);
+        call.record[6..EDGE_RULE].fill(0);
         call.record[30] = dice.below(2);
     }
 }

@@ -1,8 +1,9 @@
 //! The operations as sets of points on the infinite grid.
 //!
 //! This module is written from the definitions of document 01 and shares nothing with the scan: no rows, no partners,
-//! no levels that grow from their neighbours, no canvas and no frame until a level is asked for. It adds sets, asks
-//! whether a moved set lies within another, and counts sizes up from 0. It is slow on purpose.
+//! no levels that grow from their neighbours, no canvas, and no frame until a level is asked for or foreground lies
+//! beyond it. It adds sets, asks whether a moved set lies within another, and counts sizes up from 0. It is slow on
+//! purpose.
 //!
 //! Throughout, `sheet` is the set A and `element` the set K, which always holds the origin.
 
@@ -135,9 +136,33 @@ fn multiple(element: &Set, n: u64) -> Set {
     (0..n).fold(nothing_added(), |sum, _| sum.plus(element))
 }
 
+/// A': a sheet's set together with all points beyond its frame. It has no end, so its points can't be listed.
+pub struct Uncropped<'a> {
+    sheet: &'a Set,
+    frame: Set,
+}
+
+impl Uncropped<'_> {
+    pub fn new<'a>(sheet: &'a Set, frame: &[Point]) -> Uncropped<'a> {
+        Uncropped {
+            sheet,
+            frame: Set::of(frame),
+        }
+    }
+
+    fn holds(&self, point: Point) -> bool {
+        self.sheet.holds(point) || !self.frame.holds(point)
+    }
+}
+
+/// Whether x + b is held for every b of a set.
+fn all_held(x: Point, set: &Set, held: impl Fn(Point) -> bool) -> bool {
+    set.points.iter().all(|b| held(x.plus(*b)))
+}
+
 /// Whether x + b lies in the set for every b of the other.
 fn fits(x: Point, other: &Set, set: &Set) -> bool {
-    other.points.iter().all(|b| set.holds(x.plus(*b)))
+    all_held(x, other, |point| set.holds(point))
 }
 
 /// All x with x + b in the set for every b of the other. The other holds the origin, so every such x is itself in the
@@ -163,6 +188,15 @@ fn eroded_with_multiple(sheet: &Set, element: &Set, n: u64) -> (Set, Set) {
 /// Eroding by n: all x with x + b in A for every b in nK.
 pub fn eroded(sheet: &Set, element: &Set, n: u64) -> Set {
     eroded_with_multiple(sheet, element, n).0
+}
+
+/// Whether eroding A' by n (all x with x + b in A' for every b in nK) holds each of the given points.
+pub fn cropped_holds(sheet: &Uncropped, element: &Set, n: u64, points: &[Point]) -> Vec<bool> {
+    let sum = multiple(element, n);
+    points
+        .iter()
+        .map(|x| all_held(*x, &sum, |point| sheet.holds(point)))
+        .collect()
 }
 
 /// Dilating by n: all a + b, a in A and b in nK.
@@ -217,6 +251,18 @@ fn largest_levels(
 /// At each point the largest m for which eroding by m - 1 holds it, or 0.
 pub fn erosion_levels(sheet: &Set, element: &Set, points: &[Point]) -> Vec<u16> {
     largest_levels(sheet, element, points, |kept, _| kept)
+}
+
+/// At each point the largest m for which eroding A' by m - 1 holds it, or 0; but 65,535 where eroding by the cap does.
+pub fn cropped_levels(sheet: &Uncropped, element: &Set, cap: u64, points: &[Point]) -> Vec<u16> {
+    let mut levels = vec![0; points.len()];
+    for size in 0..=cap {
+        let held = cropped_holds(sheet, element, size, points);
+        for (level, _) in levels.iter_mut().zip(held).filter(|(_, held)| *held) {
+            *level = if size == cap { 65535 } else { level_of(size) };
+        }
+    }
+    levels
 }
 
 /// At each point the largest m for which opening by m - 1 holds it, or 0.

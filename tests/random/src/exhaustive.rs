@@ -1,12 +1,16 @@
 //! Everything there is on a small scale: all sheets of a few points with all elements of side 3, all changes of one byte
-//! in the header of a file, and all columns of rows of up to five bytes.
+//! in the header of a file, all columns of rows of up to five bytes, and all kinds with all edge rules.
 
 use crate::call::{Call, Field, Name};
 use crate::check::{check, check_run};
+use crate::kinds::Kind;
 use crate::looks::{check_looks, Cuts};
 use crate::report::Tally;
-use crate::rules::pack;
+use crate::rules::{pack, record_words, EDGE_RULE};
 use crate::sound::lend_due_lengths;
+
+/// The origin with its right neighbour, and its side.
+const T: (u64, &[u8]) = (3, &[0, 0, 0, 0, 1, 1, 0, 0, 0]);
 
 /// Frames of at most four points, so that there are at most sixteen sheets of each.
 const FRAMES: [(u64, u64); 5] = [(1, 1), (2, 2), (3, 1), (1, 3), (4, 1)];
@@ -47,7 +51,8 @@ pub fn check_small_sheets(tally: &mut Tally) {
                 check(tally, &make(Name::Close, 1));
                 check(tally, &make(Name::OpeningLevels, 0));
                 check(tally, &make(Name::ClosingLevels, 2));
-                for start in [make(Name::StartErosion, 0), make(Name::StartDilation, 2)] {
+                for kind in Kind::ALL {
+                    let start = make(kind.start(), kind.most_cap().min(2));
                     check_run(tally, &start);
                     check_looks(tally, &start, Cuts::EveryRow);
                 }
@@ -89,34 +94,65 @@ fn reading(file: Vec<u8>) -> Call {
 }
 
 /// Every width up to five bytes, where each column in turn is the only one held, or the only one not held, by runs of
-/// both kinds; what the lent sheet holds beforehand is all zeros or all ones.
+/// all kinds; what the lent sheet holds beforehand is all zeros or all ones.
 pub fn check_columns(tally: &mut Tally) {
     for width in 1..=33 {
         for column in 0..width {
             for (held, fill) in [(false, 0), (false, 255), (true, 0), (true, 255)] {
-                for cap in [None, Some(1)] {
-                    check(tally, &one_column(width, column, held, cap, fill));
+                for kind in Kind::ALL {
+                    check(tally, &one_column(width, column, held, kind, fill));
                 }
             }
         }
     }
 }
 
-/// A threshold of one row, at the cap of a dilation or at 0. Levels around a dilation's frame are as the other columns'.
-fn one_column(width: u64, column: u64, held: bool, cap: Option<u64>, fill: u8) -> Call {
+/// A threshold of one row, at the cap or at 0. Levels around a canvas's frame are as the other columns'.
+fn one_column(width: u64, column: u64, held: bool, kind: Kind, fill: u8) -> Call {
     let mut call = Call::new(Name::Threshold);
-    let kind = if cap.is_some() { 2 } else { 1 };
-    let margin = cap.unwrap_or(0);
-    call.record = vec![kind, width, 1, margin, 3, 2 * (1 + 2 * margin)];
-    let mut cells = [0; 49];
-    (cells[24], cells[25]) = (1, 1);
-    call.record.extend(cells);
-    call.number = margin;
+    let cap = kind.most_cap().min(1);
+    call.record = record_words(kind, (width, 1), cap, T, 2 * (1 + 2 * cap));
+    call.number = cap;
     lend_due_lengths(&mut call);
-    let level = |held| u16::try_from(if held { margin + 1 } else { 0 }).expect("2 at most");
-    let place = margin * (width + 2 * margin) + margin + column;
+    // The nearest levels on both sides of the threshold: in a cropped run, more than the cap and the cap.
+    let [level_held, other] = match kind {
+        Kind::Erosion => [1, 0],
+        Kind::Dilation => [2, 3],
+        Kind::Cropped => [3, 2],
+    };
+    let level = |held| if held { level_held } else { other };
+    let place = cap * (width + 2 * cap) + cap + column;
     call.levels.fill(level(!held));
     call.levels[usize::try_from(place).expect("a short row")] = level(held);
     call.bytes_out.fill(fill);
+    call
+}
+
+/// Every kind with every edge rule, with a cap and without one, in every call on a run. Three pairs are a start's.
+pub fn check_edge_rules(tally: &mut Tally) {
+    const WORDS: [u64; 8] = [0, 1, 2, 3, 255, 256, 257, 1 << 32];
+    for name in Name::ALL.into_iter().filter(|name| name.takes_record()) {
+        for kind in WORDS {
+            for edge_rule in WORDS {
+                for cap in [0, 1] {
+                    check(tally, &finished_point(name, kind, edge_rule, cap));
+                }
+            }
+        }
+    }
+}
+
+/// A call on a run of one point with all rows done, whose record has these words; its lengths fit the cap.
+fn finished_point(name: Name, kind: u64, edge_rule: u64, cap: u64) -> Call {
+    let mut call = Call::new(name);
+    call.record = record_words(Kind::Dilation, (1, 1), cap, T, 2 * (1 + 2 * cap));
+    lend_due_lengths(&mut call);
+    if name == Name::WritePgm {
+        // A cropped run's text is longer.
+        call.set_length(Field::BytesOut, 64);
+    }
+    call.levels.fill(1);
+    call.record[0] = kind;
+    call.record[EDGE_RULE] = edge_rule;
     call
 }

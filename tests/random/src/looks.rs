@@ -1,48 +1,38 @@
-//! Looks at runs under way, judged by the definitions: at every cut an erosion's sheet contains the eroded set, and a
-//! dilation's lies within the dilated set; no level is below its final one, and no row raises one.
+//! Looks at runs under way, judged by the definitions: at every cut an erosion's sheet, cropped or not, contains the
+//! eroded set, and a dilation's lies within the dilated set; no level is below its final one, and no row raises one.
 
 use crate::call::{Call, Name};
 use crate::check::call_on_run;
-use crate::definitions;
 use crate::dice::Dice;
+use crate::kinds::Kind;
+use crate::pictures;
 use crate::raw::perform;
 use crate::report::{describe, Tally};
-use crate::rules::{element_set, frame_points, judge, points_below, sheet_set};
+use crate::rules::{frame_points, judge, points_below, sheet_set};
 use crate::shrink::shrink;
 use crate::sound::allowance;
 
 /// The test that looks at a kind of run belong to.
-pub fn test_of(kind: &str) -> String {
-    match kind {
-        "erosion" => "looks at erosion runs contain the erosion".to_string(),
-        _ => "looks at dilation runs lie within the dilation".to_string(),
-    }
+pub fn test_of(kind: Kind) -> String {
+    let relation = match kind {
+        Kind::Erosion | Kind::Cropped => "contain the erosion",
+        Kind::Dilation => "lie within the dilation",
+    };
+    format!("looks at {} runs {relation}", kind.name())
 }
 
 /// A size, and which points of the frame the definitions hold at it.
 type Expected = (u64, Vec<bool>);
 
 fn expected(start: &Call) -> Vec<Expected> {
-    let sheet = sheet_set(start.width, start.height, &start.sheet);
-    let element = element_set(start.side, &start.cells);
-    let dilation = start.name == Name::StartDilation;
-    let mut sizes = if dilation {
-        vec![0, 1, start.number]
-    } else {
-        vec![0, 1, 2, 5]
-    };
-    sizes.retain(|size| !dilation || *size <= start.number);
+    let mut sizes = vec![0, 1, 2, 5];
+    if start.name.takes_cap() {
+        sizes = vec![0, 1, start.number];
+        sizes.retain(|size| *size <= start.number);
+    }
     sizes
         .into_iter()
-        .map(|size| {
-            let set = if dilation {
-                definitions::dilated(&sheet, &element, size)
-            } else {
-                definitions::eroded(&sheet, &element, size)
-            };
-            let points = frame_points(start.width, start.height);
-            (size, points.iter().map(|point| set.holds(*point)).collect())
-        })
+        .map(|size| (size, pictures::held(start, size)))
         .collect()
 }
 
@@ -150,10 +140,7 @@ fn compare_looks(start: &Call, cuts: Cuts) -> Result<(), String> {
 
 /// Compares the looks at one run.
 pub fn check_looks(tally: &mut Tally, start: &Call, cuts: Cuts) {
-    let test = test_of(match start.name {
-        Name::StartDilation => "dilation",
-        _ => "erosion",
-    });
+    let test = test_of(Kind::started_by(start.name).expect("a start"));
     tally.tried(&test);
     if compare_looks(start, cuts).is_err() && tally.differs(&test) {
         let small = shrink(start, |call| {

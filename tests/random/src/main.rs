@@ -4,10 +4,10 @@
 //!
 //! First come the sheets worked by hand, the largest sheets, and all calls of a small scale; then the random rounds.
 //! Every round makes random calls of every function, sound and damaged, and compares the number and every lent slice
-//! with what the rules say; and it works runs of both kinds, whole and in slices, looks at them at their cuts, and
-//! compares them with the definitions. The same seed and rounds give the same calls. `--trace` prints each call to standard error before it is
-//! made, for a library that crashes. The last line is `random: N passed, M failed`, and the exit status is 0 exactly
-//! when M is 0.
+//! with what the rules say; and it works runs of all kinds, whole and in slices, looks at them at their cuts, and
+//! compares them with the definitions. The same seed and rounds give the same calls. `--trace` prints each call to
+//! standard error before it is made, for a library that crashes. The last line is `random: N passed, M failed`, and the
+//! exit status is 0 exactly when M is 0.
 #![deny(unsafe_code)]
 
 mod call;
@@ -18,7 +18,9 @@ mod definitions;
 mod dice;
 mod exhaustive;
 mod guarded;
+mod kinds;
 mod looks;
+mod pictures;
 mod raw;
 mod report;
 mod rules;
@@ -31,6 +33,7 @@ use std::time::{Instant, SystemTime, UNIX_EPOCH};
 
 use call::Name;
 use dice::Dice;
+use kinds::Kind;
 use report::Tally;
 use sound::Scale;
 
@@ -80,7 +83,7 @@ fn expected_tests() -> Tally {
             tally.expect(check::test_of(name, *number));
         }
     }
-    for kind in ["erosion", "dilation"] {
+    for kind in Kind::ALL {
         for what in [
             "side 3",
             "side 5",
@@ -88,7 +91,10 @@ fn expected_tests() -> Tally {
             "asymmetric",
             "outer ring empty",
         ] {
-            tally.expect(format!("{kind} runs, {what}, equal the definitions"));
+            tally.expect(format!(
+                "{} runs, {what}, equal the definitions",
+                kind.name()
+            ));
         }
         tally.expect(looks::test_of(kind));
     }
@@ -112,6 +118,7 @@ fn main() -> ExitCode {
     exhaustive::check_small_sheets(&mut tally);
     exhaustive::check_headers(&mut tally);
     exhaustive::check_columns(&mut tally);
+    exhaustive::check_edge_rules(&mut tally);
     for round in 0..options.rounds {
         // Every round has dice of its own, so that a change of one round leaves the others as they are.
         let mut dice = Dice::new(

@@ -44,6 +44,8 @@ pub fn perform(call: &Call) -> Result<(u32, Call), String> {
                 levels_at, levels_len, words_at, words_len),
             Name::StartDilation => c::wt_start_dilation(width, height, sheet_at, sheet_len, side, cells_at, cells_len,
                 number, levels_at, levels_len, words_at, words_len),
+            Name::StartCropped => c::wt_start_cropped(width, height, sheet_at, sheet_len, side, cells_at, cells_len,
+                number, levels_at, levels_len, words_at, words_len),
             Name::Continue => c::wt_continue(record_at, record_len, levels_at, levels_len, number, words_at, words_len),
             Name::Collect => c::wt_collect(record_at, record_len, levels_at, levels_len, out_at, out_len),
             Name::Threshold => c::wt_threshold(record_at, record_len, levels_at, levels_len, number,

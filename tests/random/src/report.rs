@@ -4,6 +4,7 @@ use std::collections::BTreeMap;
 use std::fmt::Write;
 
 use crate::call::{Call, Field};
+use crate::kinds::Kind;
 use crate::rules::Record;
 
 /// So many differences of one test are printed in full; the rest are only counted.
@@ -88,10 +89,10 @@ pub fn describe(call: &Call) -> String {
         let _ = writeln!(
             text,
             "    that is {} of a frame {} by {}, cap {}, side {}, {} of {} rows done",
-            if record.dilation {
-                "a dilation"
-            } else {
-                "an erosion"
+            match record.kind {
+                Kind::Erosion => "an erosion",
+                Kind::Dilation => "a dilation",
+                Kind::Cropped => "a cropped run",
             },
             record.width,
             record.height,

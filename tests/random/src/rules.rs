@@ -6,9 +6,11 @@
 
 use crate::call::{Call, Field, Name};
 use crate::definitions::{self, Point, Set};
+use crate::kinds::{Kind, NOTHING_FOUND};
 
-const NOTHING_FOUND: u16 = 65535;
-const RECORD_WORDS: usize = 55;
+const RECORD_WORDS: usize = 56;
+/// The place of a record's edge rule, after the cells.
+pub const EDGE_RULE: usize = 55;
 
 /// The number the call has to give, and all its slices afterwards.
 pub fn judge(call: &Call) -> (u32, Call) {
@@ -85,7 +87,7 @@ pub fn due_length(call: &Call, field: Field) -> u128 {
         (_, Field::Sheet) => frame_bytes(call.width, call.height),
         (_, Field::Cells) => u128::from(call.side) * u128::from(call.side),
         (_, Field::Record) => RECORD_WORDS as u128,
-        (Name::StartErosion | Name::StartDilation, Field::WordsOut) => RECORD_WORDS as u128,
+        (name, Field::WordsOut) if Kind::started_by(name).is_some() => RECORD_WORDS as u128,
         (Name::Continue | Name::ReadPbm, Field::WordsOut) => 2,
         (_, Field::WordsOut) => 1,
         (Name::Continue | Name::Collect | Name::Threshold | Name::Provisional, Field::Levels) => {
@@ -133,7 +135,7 @@ fn coordinate(number: u64) -> i64 {
 /// A record that some start could give, rows done aside.
 #[derive(Clone, Debug)]
 pub struct Record {
-    pub dilation: bool,
+    pub kind: Kind,
     pub width: u64,
     pub height: u64,
     pub cap: u64,
@@ -150,16 +152,13 @@ fn record_of(call: &Call) -> Record {
 
 impl Record {
     pub fn read(words: &[u64]) -> Option<Record> {
-        let [kind, width, height, cap, side, rows_done, cells @ ..] = words else {
+        let [kind, width, height, cap, side, rows_done, cells @ .., edge_rule] = words else {
             return None;
         };
-        let most_cap = match kind {
-            1 => 0,
-            2 => 2047,
-            _ => return None,
-        };
+        let kind = Kind::of_words(*kind, *edge_rule)?;
         let frame_wrong = side_out_of_range(*width) || side_out_of_range(*height);
-        if cells.len() != 49 || frame_wrong || *cap > most_cap || !matches!(side, 3 | 5 | 7) {
+        let cap_wrong = *cap > kind.most_cap();
+        if cells.len() != 49 || frame_wrong || cap_wrong || !matches!(side, 3 | 5 | 7) {
             return None;
         }
         let reach = coordinate((side - 1) / 2);
@@ -181,7 +180,7 @@ impl Record {
             }
         }
         let record = Record {
-            dilation: *kind == 2,
+            kind,
             width: *width,
             height: *height,
             cap: *cap,
@@ -219,20 +218,16 @@ impl Record {
 
     /// The maximum that a PGM of the run states.
     pub fn maximum(&self) -> u64 {
-        if self.dilation {
-            self.cap + 1
-        } else {
-            self.width.max(self.height)
+        match self.kind {
+            Kind::Erosion => self.width.max(self.height),
+            Kind::Dilation => self.cap + 1,
+            Kind::Cropped => u64::from(NOTHING_FOUND),
         }
     }
 
     /// The largest size that can be thresholded at.
     pub fn most_size(&self) -> u64 {
-        if self.dilation {
-            self.cap
-        } else {
-            4096
-        }
+        self.kind.most_size(self.cap)
     }
 
     /// The level of the area at a point, or what is read beyond the area.
@@ -242,10 +237,10 @@ impl Record {
             coordinate(self.area_height()),
         );
         let inside = (0..width).contains(&point.column) && (0..height).contains(&point.row);
-        match (inside, self.dilation) {
-            (true, _) => levels[usize::try_from(point.row * width + point.column).expect("inside")],
-            (false, true) => NOTHING_FOUND,
-            (false, false) => 0,
+        if inside {
+            levels[usize::try_from(point.row * width + point.column).expect("inside")]
+        } else {
+            self.kind.beyond()
         }
     }
 
@@ -277,17 +272,7 @@ impl Record {
     fn work_point(&self, levels: &mut [u16], downward: bool, x: Point) {
         let mut least_met: Option<u16> = None;
         for b in &self.partners {
-            let partner = if self.dilation {
-                Point {
-                    column: x.column - b.column,
-                    row: x.row - b.row,
-                }
-            } else {
-                Point {
-                    column: x.column + b.column,
-                    row: x.row + b.row,
-                }
-            };
+            let partner = self.kind.partner(x, *b);
             let before = partner.row < x.row || (partner.row == x.row && partner.column < x.column);
             if before == downward {
                 let level = self.level_at(levels, partner);
@@ -376,8 +361,9 @@ fn accept(call: &mut Call) {
     let sheet = || sheet_set(call.width, call.height, &call.sheet);
     let element = || element_set(call.side, &call.cells);
     match call.name {
-        Name::StartErosion => start(call, false),
-        Name::StartDilation => start(call, true),
+        Name::StartErosion => start(call, Kind::Erosion),
+        Name::StartDilation => start(call, Kind::Dilation),
+        Name::StartCropped => start(call, Kind::Cropped),
         Name::Continue => {
             let record = record_of(call);
             let rows = call.number.min(record.rows_due() - record.rows_done);
@@ -393,12 +379,8 @@ fn accept(call: &mut Call) {
         Name::Collect => {
             let record = record_of(call);
             call.levels_out = record.frame_levels(&call.levels);
-            if record.dilation {
-                for level in &mut call.levels_out {
-                    if u64::from(*level) > record.cap + 1 {
-                        *level = 0;
-                    }
-                }
+            for level in &mut call.levels_out {
+                *level = record.kind.collected(record.cap, *level);
             }
         }
         Name::Threshold => call.bytes_out = thresholded(call),
@@ -452,14 +434,7 @@ fn thresholded(call: &Call) -> Vec<u8> {
     let flags: Vec<bool> = record
         .frame_levels(&call.levels)
         .into_iter()
-        .map(u64::from)
-        .map(|level| {
-            if record.dilation {
-                1 <= level && level <= call.number + 1
-            } else {
-                level > call.number
-            }
-        })
+        .map(|level| record.kind.holds(record.cap, call.number, level))
         .collect();
     pack(record.width, &flags)
 }
@@ -475,41 +450,47 @@ fn write(call: &mut Call, file: &[u8]) {
     call.words_out = vec![file.len() as u64];
 }
 
-fn start(call: &mut Call, dilation: bool) {
-    let reach = (call.side - 1) / 2;
-    let cap = if dilation { call.number } else { 0 };
-    let mut words = vec![
-        if dilation { 2 } else { 1 },
-        call.width,
-        call.height,
-        cap,
-        call.side,
-        0,
-    ];
+/// The words of a record.
+pub fn record_words(
+    kind: Kind,
+    (width, height): (u64, u64),
+    cap: u64,
+    (side, cells): (u64, &[u8]),
+    rows_done: u64,
+) -> Vec<u64> {
+    let (kind, edge_rule) = kind.words();
+    let mut words = vec![kind, width, height, cap, side, rows_done];
+    let corner = 3 - (side - 1) / 2;
     let mut rows = [[0; 7]; 7];
-    for (place, cell) in call.cells.iter().enumerate() {
-        let (row, column) = (place as u64 / call.side, place as u64 % call.side);
-        rows[index(3 - reach + row)][index(3 - reach + column)] = u64::from(*cell);
+    for (place, cell) in cells.iter().enumerate() {
+        let (row, column) = (place as u64 / side, place as u64 % side);
+        rows[index(corner + row)][index(corner + column)] = u64::from(*cell);
     }
     words.extend(rows.iter().flatten());
-    call.words_out = words;
+    words.push(edge_rule);
+    words
+}
 
-    let (on, off) = if dilation {
-        (1, NOTHING_FOUND)
-    } else {
-        (NOTHING_FOUND, 0)
-    };
-    let margin = coordinate(cap * reach);
+fn start(call: &mut Call, kind: Kind) {
+    let cap = if kind.has_cap() { call.number } else { 0 };
+    let frame = (call.width, call.height);
+    call.words_out = record_words(kind, frame, cap, (call.side, &call.cells), 0);
+    let record = Record::read(&call.words_out).expect("a start gives a sound record");
+    let margin = coordinate(record.margin());
     let set = sheet_set(call.width, call.height, &call.sheet);
-    let canvas_width = call.width + 2 * cap * reach;
-    let canvas_height = call.height + 2 * cap * reach;
-    call.levels = frame_points(canvas_width, canvas_height)
+    let frame = Set::of(&frame_points(call.width, call.height));
+    let [foreground, background, elsewhere] = kind.start_levels();
+    call.levels = frame_points(record.area_width(), record.area_height())
         .into_iter()
         .map(|point| Point {
             column: point.column - margin,
             row: point.row - margin,
         })
-        .map(|point| if set.holds(point) { on } else { off })
+        .map(|point| match (set.holds(point), frame.holds(point)) {
+            (true, _) => foreground,
+            (false, true) => background,
+            (false, false) => elsewhere,
+        })
         .collect();
 }
 

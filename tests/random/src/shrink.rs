@@ -2,7 +2,7 @@
 
 use crate::call::{Call, Field, Name};
 use crate::definitions::Point;
-use crate::rules::{due_length, frame_points, pack, sheet_set, Record};
+use crate::rules::{due_length, frame_points, pack, sheet_set, Record, EDGE_RULE};
 
 /// So many smaller calls are tried at most: each costs two calls, and a failing test should end soon.
 const MOST_TRIES: usize = 20_000;
@@ -149,7 +149,7 @@ fn smaller_records(call: &Call, list: &mut Vec<Call>) {
             }
         }
     }
-    for place in 6..call.record.len() {
+    for place in 6..EDGE_RULE {
         if call.record[place] == 1 && place != 30 {
             let mut next = call.clone();
             next.record[place] = 0;

@@ -2,7 +2,8 @@
 
 use crate::call::{Call, Field, Name};
 use crate::dice::Dice;
-use crate::rules::{due_length, pack, Record};
+use crate::kinds::Kind;
+use crate::rules::{due_length, pack, record_words, Record};
 
 /// How large the sheets may be.
 #[derive(Clone, Copy, PartialEq, Eq)]
@@ -200,30 +201,17 @@ fn opening_size(dice: &mut Dice) -> u64 {
 /// A sound record, and the number that the call on it takes.
 fn record(dice: &mut Dice, call: &mut Call, scale: Scale) {
     let (side, cells) = element(dice);
-    let dilation = dice.percent(50);
+    let kind = dice.pick(&Kind::ALL);
     let (mut width, mut height) = frame(dice, scale);
-    let mut cap = if dilation { cap(dice, side, scale) } else { 0 };
+    let mut cap = cap(dice, side, scale);
     if call.name == Name::WritePgm && dice.percent(30) {
-        // Numbers of up to four digits, and rows of many lines. No canvas is lent here, so this is cheap.
-        cap = if dilation {
-            dice.pick(&[8, 9, 98, 99, 300])
-        } else {
-            0
-        };
+        // Numbers of up to five digits, and rows of many lines. No canvas is lent here, so this is cheap.
+        cap = dice.pick(&[8, 9, 98, 99, 300]);
         width = dice.pick(&[20, 35, 36, 99, 100, 101, 999, 1000, 1200]);
         height = dice.between(1, 3);
     }
-    let mut words = vec![if dilation { 2 } else { 1 }, width, height, cap, side, 0];
-    let mut rows = [[0; 7]; 7];
-    for (place, cell) in cells.iter().enumerate() {
-        let (row, column) = (place as u64 / side, place as u64 % side);
-        let corner = 3 - (side - 1) / 2;
-        let (row, column) = (corner + row, corner + column);
-        rows[usize::try_from(row).expect("below 7")][usize::try_from(column).expect("below 7")] =
-            u64::from(*cell);
-    }
-    words.extend(rows.iter().flatten());
-    call.record = words;
+    let cap = cap.min(kind.most_cap());
+    call.record = record_words(kind, (width, height), cap, (side, &cells), 0);
     let record = Record::read(&call.record).expect("the record is sound");
     match call.name {
         Name::Continue => {
@@ -277,7 +265,7 @@ fn levels_of_run(dice: &mut Dice, call: &mut Call) {
             } else {
                 dice.between(0, maximum)
             })
-            .expect("a maximum is at most 4,096"),
+            .expect("a maximum is at most 65,535"),
         };
     }
 }
@@ -310,8 +298,7 @@ fn digits(dice: &mut Dice, file: &mut Vec<u8>, number: u64) {
 
 /// Random contents for what the call is to overwrite.
 fn scramble(dice: &mut Dice, call: &mut Call) {
-    let is_start = matches!(call.name, Name::StartErosion | Name::StartDilation);
-    if is_start {
+    if Kind::started_by(call.name).is_some() {
         call.levels
             .iter_mut()
             .for_each(|level| *level = dice.level());

@@ -1,6 +1,6 @@
 -- The cells are filled one a turn, each from its word.
 use Rattle.basics.proofs.TableLaws.{Filling, filling-start, filling-turn, filling-end}
-use Rattle.harness.proofs.WordLaws.{record-length, record-cell, record-cells}
+use Rattle.harness.proofs.WordLaws.{record-length, record-byte, record-cells}
 use Rattle.harness.specs.Boundary.{recordNumbers, recordCells}
 use borrow.Author.Needs.{needs}
 use native.Mathlib.Omega.{arith}
@@ -27,8 +27,8 @@ shared-slice-read-byte-of c =
 byte-of-requires : tie.Need-byte-of-requires Inv-loop μ-loop
 byte-of-requires c κs =
     let pre = c .before .before .before .before .pre in
-    record-cell (c .before .before .before .before .args .words .now) pre (c .before .before .loop .k)
-    (c .before .loop-test .taken)
+    record-byte (c .before .before .before .before .args .words .now) pre (c .before .before .loop .k)
+    (omega arith)
 
 loop-again : tie.Need-loop-again Inv-loop μ-loop
 loop-again c = filling-turn recordCells _ _ _ _ (c .before .before .before .loop .inv) (c .before .before .loop-test .taken)

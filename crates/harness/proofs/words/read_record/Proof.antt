@@ -1,51 +1,35 @@
--- The words are there, and the kind and the cells are bytes.
-use Rattle.harness.proofs.WordLaws.{record-word, record-kind, record-is}
+-- The words are there, and the kind, the cells and the edge rule are bytes.
+use Rattle.harness.proofs.WordLaws.{record-word, record-kind, record-byte, record-is}
+use Rattle.harness.specs.Boundary.{recordCells}
 use borrow.Author.Needs.{needs}
 use native.Mathlib.Omega.{arith}
 use Rattle.harness.proofs.words.read_record.Statement.{statement}
 use Rattle.harness.proofs.words.read_record.Tie as tie
 
-shared-slice-read-byte-of : tie.Need-shared-slice-read-byte-of
-shared-slice-read-byte-of c =
-    record-word (c .before .before .before .args .words .now) (c .before .before .before .pre) _ (omega arith)
-
 byte-of-requires : tie.Need-byte-of-requires
-byte-of-requires c κs = record-kind (c .before .before .before .args .words .now) (c .before .before .before .pre)
+byte-of-requires c κs =
+    let args = c .before .before .before .args in
+    record-kind (args .words .now) (c .before .before .before .pre)
 
-shared-slice-read-t5 : tie.Need-shared-slice-read-t5
-shared-slice-read-t5 c =
-    let pre = c .before .before .before .before .before .pre in
-    record-word (c .before .before .before .before .before .args .words .now) pre _ (omega arith)
-
-shared-slice-read-t9 : tie.Need-shared-slice-read-t9
-shared-slice-read-t9 c =
-    let pre = c .before .before .before .before .before .before .pre in
-    record-word (c .before .before .before .before .before .before .args .words .now) pre _ (omega arith)
-
-shared-slice-read-t12 : tie.Need-shared-slice-read-t12
-shared-slice-read-t12 c =
-    let pre = c .before .before .before .before .before .before .before .pre in
-    record-word (c .before .before .before .before .before .before .before .args .words .now) pre _ (omega arith)
-
-shared-slice-read-t15 : tie.Need-shared-slice-read-t15
-shared-slice-read-t15 c =
-    let pre = c .before .before .before .before .before .before .before .before .pre in
-    record-word (c .before .before .before .before .before .before .before .before .args .words .now) pre _ (omega arith)
-
-shared-slice-read-t18 : tie.Need-shared-slice-read-t18
-shared-slice-read-t18 c =
-    let pre = c .before .before .before .before .before .before .before .before .before .pre in
-    record-word (c .before .before .before .before .before .before .before .before .before .args .words .now) pre _ (omega arith)
+byte-of-requires-2 : tie.Need-byte-of-requires-2
+byte-of-requires-2 c κs =
+    let args = c .before .before .before .before .before .args in
+    let start = c .before .before .before .before .before in
+    record-byte (args .words .now) (start .pre) recordCells (omega arith)
 
 returns : tie.Need-returns
 returns c =
-    let pre = c .before .before .before .before .before .before .before .before .before .pre in
-    let read-cells = c .before .before .before .before .before .before .before .read-cells in
-    let byte-of = c .before .before .before .before .before .byte-of in
-    record-is (c .before .before .before .before .before .before .before .before .before .args .words .now) pre
-    (read-cells .result) (byte-of .result) (read-cells .ensures) (byte-of .ensures)
+    let earlier = c .before .before .before .before .before .before .before .before .before in
+    let args = earlier .before .before .args in
+    let read-cells = earlier .read-cells in
+    let byte-of = c .before .before .before .before .before .before .before .byte-of in
+    let byte-of2 = c .before .before .before .before .before .byte-of2 in
+    record-is (args .words .now) (earlier .before .before .pre) (read-cells .result) (byte-of .result) (byte-of2 .result)
+    (read-cells .ensures) (byte-of .ensures) (byte-of2 .ensures)
 
 pub read-record-spec : {M : Type 1} → statement M
 read-record-spec =
-    tie.close (tie.spec (λ c κs. search needs) shared-slice-read-byte-of byte-of-requires shared-slice-read-t5
-    shared-slice-read-t9 shared-slice-read-t12 shared-slice-read-t15 shared-slice-read-t18 returns)
+    tie.close (tie.spec (λ c κs. search needs) (λ c. search (needs, record-word)) byte-of-requires
+    (λ c. search (needs, record-word)) byte-of-requires-2 (λ c. search (needs, record-word))
+    (λ c. search (needs, record-word)) (λ c. search (needs, record-word)) (λ c. search (needs, record-word))
+    (λ c. search (needs, record-word)) returns)

@@ -1,4 +1,4 @@
--- The numbers are written first, and the cells after them.
+-- The numbers are written first, and the bytes after them.
 use Rattle.harness.proofs.WordLaws.{record-stored}
 use borrow.Author.Needs.{needs}
 use Rattle.harness.proofs.words.write_record.Statement.{statement}
@@ -6,14 +6,14 @@ use Rattle.harness.proofs.words.write_record.Tie as tie
 
 returns : tie.Need-returns
 returns c =
-    let args = c .before .before .before .before .before .before .before .before .before .before .before .args in
+    let earlier = c .before .before .before .before .before .before .before .before .before in
+    let args = earlier .before .before .args in
     let word-of = c .before .before .before .before .before .before .before .before .word-of in
     let write-numbers = c .before .before .before .before .before .before .write-numbers in
-    let write-cells = c .before .before .write-cells in
-    record-stored (args .run) (args .words .now) (write-numbers .last .1 .1 .1 .1 .1 .1 .0) (write-cells .last .1 .0)
-    (word-of .result) (word-of .ensures) (write-numbers .ensures) (write-cells .ensures)
+    let write-bytes = c .before .before .write-bytes in
+    record-stored (args .run) (args .words .now) (write-numbers .last .1 .1 .1 .1 .1 .1 .0) (write-bytes .last .1 .1 .0)
+    (word-of .result) (word-of .ensures) (write-numbers .ensures) (write-bytes .ensures)
 
 pub write-record-spec : {M : Type 1} → statement M
 write-record-spec =
-    tie.close
-    (tie.spec (λ c κs. search needs) (λ c κs. search needs) (λ c κs. search needs) (λ c. search needs) returns)
+    tie.close (tie.spec (λ c κs. search needs) (λ c κs. search needs) (λ c κs. search needs) (λ c. search needs) returns)

@@ -74,8 +74,8 @@ margin-of-requires c κs =
     let s = sound-record (args .run) (sym (record-bad .ensures) ∙ if1 .left) in
     (s .side-is, s .cap-small)
 
-collected-limit-requires : tie.Need-collected-limit-requires
-collected-limit-requires c κs =
+reading-of-requires : tie.Need-reading-of-requires
+reading-of-requires c κs =
     let earlier = c .before .before .before .before .before .before .before .before .before in
     let args = earlier .before .args in
     let record-bad = c .before .before .before .before .before .before .before .record-bad in
@@ -106,7 +106,7 @@ returns-4 c =
     let all-done = c .before .before .before .before .before .before .before .all-done in
     let if3 = c .before .before .before .before .before .before .if3 in
     let margin-of = c .before .before .before .before .before .margin-of in
-    let collected-limit = c .before .before .before .before .collected-limit in
+    let reading-of = c .before .before .before .before .reading-of in
     let copy-frame = c .before .before .copy-frame in
     let bad = sym (record-bad .ensures) ∙ if1 .left in
     let judged = collect-judged (args .run) (args .levels .now) (args .out .now) bad (view-refusal .ensures) in
@@ -114,10 +114,10 @@ returns-4 c =
     (sym judged ∙ if2 .left) (sym (all-done .ensures) ∙ not-false _ (if3 .left)))
     (copy-frame .ensures
     ∙ is-collected (sound-record (args .run) bad) (args .levels .now) (margin-of .result) (margin-of .ensures .0)
-    (collected-limit .result) (collected-limit .ensures))
+    (reading-of .result) (reading-of .ensures))
 
 pub collect-spec : {M : Type 1} → statement M
 collect-spec =
     tie.close (tie.spec (λ c κs. search needs) returns mul-view-refusal view-refusal-requires returns-2
-    all-done-requires returns-3 margin-of-requires collected-limit-requires copy-frame-requires (λ c. search needs)
+    all-done-requires returns-3 margin-of-requires reading-of-requires copy-frame-requires (λ c. search needs)
     returns-4)

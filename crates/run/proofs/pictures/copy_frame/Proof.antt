@@ -8,11 +8,11 @@ use Rattle.run.proofs.pictures.copy_frame.Statement.{statement}
 use Rattle.run.proofs.pictures.copy_frame.Tie as tie
 
 abbrev Inv-loop : tie.InvT-loop
-Inv-loop levels width height margin limit out₀ side row₀ out row =
-    (row ≤ height) × Rows width (copiedLevel width margin levels limit) row out₀ out
+Inv-loop levels width height margin reading out₀ side row₀ out row =
+    (row ≤ height) × Rows width (copiedLevel width margin levels reading) row out₀ out
 
 abbrev μ-loop : tie.MeasureT-loop
-μ-loop levels width height margin limit out₀ side row₀ out row = height - row
+μ-loop levels width height margin reading out₀ side row₀ out row = height - row
 
 loop-holds : tie.Need-loop-holds Inv-loop μ-loop
 loop-holds c = (omega arith, rows-none)
@@ -48,7 +48,7 @@ loop-again c =
     let args = c .before .before .before .before .before .before .before .before .args in
     let loop = c .before .before .before .before .before .loop in (
       omega arith,
-      copied-row (args .width) (args .margin) (args .levels .now) (args .limit) (loop .inv .1)
+      copied-row (args .width) (args .margin) (args .levels .now) (args .reading) (loop .inv .1)
           (c .before .before .copy-row .ensures),
     )
 

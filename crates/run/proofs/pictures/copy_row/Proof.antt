@@ -1,5 +1,5 @@
 -- The loop's invariant: the first i entries of the stretch are copied.
-use Rattle.run.specs.Patches.{Patch, limitedTo}
+use Rattle.run.specs.Patches.{Patch, readAs}
 use Rattle.run.proofs.PatchLaws.{patch-none, patch-turn, patch-all}
 use borrow.Author.Needs.{needs}
 use native.Mathlib.Omega.{arith}
@@ -9,10 +9,10 @@ use Rattle.run.proofs.pictures.copy_row.Statement.{statement}
 use Rattle.run.proofs.pictures.copy_row.Tie as tie
 
 abbrev Inv-loop : tie.InvT-loop
-Inv-loop levels from n limit out₀ at i₀ out i = (i ≤ n) × Patch at i (λ j. limitedTo limit (getD levels (from + j) 0)) out₀ out
+Inv-loop levels from n reading out₀ at i₀ out i = (i ≤ n) × Patch at i (λ j. readAs reading (getD levels (from + j) 0)) out₀ out
 
 abbrev μ-loop : tie.MeasureT-loop
-μ-loop levels from n limit out₀ at i₀ out i = n - i
+μ-loop levels from n reading out₀ at i₀ out i = n - i
 
 loop-holds : tie.Need-loop-holds Inv-loop μ-loop
 loop-holds c = (omega arith, patch-none _ _ _)
@@ -20,7 +20,7 @@ loop-holds c = (omega arith, patch-none _ _ _)
 loop-again : tie.Need-loop-again Inv-loop μ-loop
 loop-again c = (
   omega arith,
-  patch-turn (c .before .before .before .loop .inv .1) (c .limited .result) (omega arith) (c .limited .ensures),
+  patch-turn (c .before .before .before .loop .inv .1) (c .read-as .result) (omega arith) (c .read-as .ensures),
 )
 
 returns : tie.Need-returns Inv-loop μ-loop

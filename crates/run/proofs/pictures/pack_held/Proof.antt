@@ -18,7 +18,8 @@ below-held-requires c κs =
     let args = c .before .before .before .args in
     let start = c .before .before .before in
     let taken = provisional-taken (args .run) (args .levels .now) (args .out .now) (args .size) (start .pre) in
-    size-small (sound-record (args .run) (taken .0)) (args .size) (taken .1)
+    let s = sound-record (args .run) (taken .0) in
+    (s .cap-small, size-small s (args .size) (taken .1))
 
 highest-held-requires : tie.Need-highest-held-requires
 highest-held-requires c κs =

@@ -1,7 +1,8 @@
 -- The loop's invariant: the rows above are filled. All rows are the start levels.
 use Rattle.run.specs.Records.{canvasSide}
 use Rattle.run.proofs.PatchLaws.{Rows, rows-none, rows-turn, canvas-after}
-use Rattle.run.proofs.StartLaws.{startLevel, start-raster}
+use Rattle.run.specs.Starting.{startLevel}
+use Rattle.run.proofs.StartLaws.{start-raster}
 use borrow.Author.Needs.{needs}
 use native.Mathlib.Omega.{arith}
 use Prim.Native.Nat.{_-_, _≤_}
@@ -9,11 +10,11 @@ use Rattle.run.proofs.starting.fill_area.Statement.{statement}
 use Rattle.run.proofs.starting.fill_area.Tie as tie
 
 abbrev Inv-loop : tie.InvT-loop
-Inv-loop levels₀ width height margin sheet on off rows row₀ levels row =
-    (row ≤ rows) × Rows (canvasSide width margin) (startLevel width height margin sheet on off) row levels₀ levels
+Inv-loop levels₀ width height margin sheet on off outside rows row₀ levels row =
+    (row ≤ rows) × Rows (canvasSide width margin) (startLevel width height margin sheet on off outside) row levels₀ levels
 
 abbrev μ-loop : tie.MeasureT-loop
-μ-loop levels₀ width height margin sheet on off rows row₀ levels row = rows - row
+μ-loop levels₀ width height margin sheet on off outside rows row₀ levels row = rows - row
 
 loop-holds : tie.Need-loop-holds Inv-loop μ-loop
 loop-holds c = (omega arith, rows-none)
@@ -38,8 +39,8 @@ same-length c = c .before .loop .inv .1 .filled .size
 returns : tie.Need-returns Inv-loop μ-loop
 returns c =
     let start = c .before .before .before .before in
-    start-raster (start .args .on) (start .args .off) (start .args .sheet .now) (start .pre .0) (c .before .loop .inv .1)
-    (omega arith)
+    start-raster (start .args .on) (start .args .off) (start .args .outside) (start .args .sheet .now) (start .pre .0)
+    (c .before .loop .inv .1) (omega arith)
 
 pub fill-area-spec : {M : Type 1} → statement M
 fill-area-spec =

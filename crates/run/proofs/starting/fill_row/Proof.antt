@@ -22,7 +22,7 @@ returns c =
     let args = c .before .before .before .before .before .before .before .args in
     let if1 = c .before .before .before .before .if1 in
     patch-as (c .before .before .fill-level .ensures) _
-    (λ col _. row-above (args .width) (args .height) (args .margin) (args .sheet .now) (args .on) (args .off) (args .row)
+    (λ col _. row-above (args .width) (args .height) (args .margin) (args .sheet .now) (args .on) (args .off) (args .outside) (args .row)
     (if1 .taken) col)
 
 fill-level-requires-2 : tie.Need-fill-level-requires-2
@@ -35,7 +35,7 @@ returns-2 c =
     let args = c .before .before .before .before .before .before .before .before .args in
     let if2 = c .before .before .before .before .if2 in
     patch-as (c .before .before .fill-level2 .ensures) _
-    (λ col _. row-below (args .width) (args .height) (args .margin) (args .sheet .now) (args .on) (args .off) (args .row)
+    (λ col _. row-below (args .width) (args .height) (args .margin) (args .sheet .now) (args .on) (args .off) (args .outside) (args .row)
     (if2 .taken) col)
 
 fill-level-requires-3 : tie.Need-fill-level-requires-3
@@ -87,7 +87,7 @@ returns-3 c =
     let if2 = earlier .before .before .if2 in
     let fill-level3 = earlier .fill-level3 in
     let fill-pixels = c .before .before .before .before .before .before .fill-pixels in
-    row-parts (args .width) (args .height) (args .margin) (args .sheet .now) (args .on) (args .off) (args .row) (if1 .left)
+    row-parts (args .width) (args .height) (args .margin) (args .sheet .now) (args .on) (args .off) (args .outside) (args .row) (if1 .left)
     (if2 .left) (fill-level3 .ensures) (fill-pixels .ensures) (c .before .before .fill-level4 .ensures)
 
 pub fill-row-spec : {M : Type 1} → statement M
