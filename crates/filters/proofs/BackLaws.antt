@@ -4,7 +4,7 @@ use Prim.Native.Nat.{ℕ, _+_, _*_, _<_}
 use native.Mathlib.Nat.{zero-mul}
 use native.Mathlib.Omega.{arith}
 use mathlib.Core.Path.{_≡_, refl, sym, ap, ap₂, _∙_}
-use mathlib.Core.Bool.{Bool, true, false, cond, _||_, false≢true}
+use mathlib.Core.Bool.{Bool, true, false, cond, false≢true}
 use mathlib.Core.Logic.{_↔_}
 use mathlib.Core.List.{List}
 use lib.Dec.{eqb}
@@ -13,18 +13,16 @@ use borrow.Author.Tests.{le-ltb}
 use Rattle.basics.proofs.Arithmetic.{entry-below}
 use Rattle.sheet.proofs.FrameLaws.{side-fits}
 use Rattle.basics.specs.Limits.{longestSide}
-use Rattle.basics.proofs.BoundLaws.{neither}
 use Rattle.basics.proofs.TableLaws.{length-table, getD-table}
 use Rattle.grid.specs.Points.{Point}
 use Rattle.grid.specs.Sets.{PointSet}
 use Rattle.grid.specs.Figures.{reach}
-use Rattle.sheet.specs.Sheets.{isSideOut}
 use Rattle.scan.specs.Look.{look}
 use Rattle.scan.proofs.LookLaws.{spot, look-inside}
 use Rattle.run.specs.declared.Record.{Record}
-use Rattle.run.specs.Kinds.{erosionKind, dilationKind, backgroundBeyond, onOf, offOf, isHeldAt}
-use Rattle.run.specs.Records.{areaWidth, areaHeight, areaOf, elementForeign, kindForeign, capForeign, foreign}
-use Rattle.run.proofs.RecordLaws.{sound}
+use Rattle.run.specs.Kinds.{erosionKind, onOf, offOf, isHeldAt}
+use Rattle.run.specs.Records.{areaWidth, areaHeight, areaOf, kindForeign, capForeign, foreign}
+use Rattle.run.proofs.RecordLaws.{taken-parts, sound}
 use Rattle.filters.specs.Back.{back, backStart}
 
 module _ (r : Record) where
@@ -37,20 +35,11 @@ module _ (r : Record) where
 -- the way back is a run that a start could give
 back-kind : (r : Record) → kindForeign (back r) ≡ false
 unfolding kindForeign
-back-kind r = go (eqb (r .kind) erosionKind)
+back-kind r = go (eqb (r .kind) erosionKind) refl
   where
-    go : (t : Bool) → kindForeign (record {
-      kind = cond t dilationKind erosionKind;
-      width = areaWidth r;
-      height = areaHeight r;
-      cap = 0;
-      side = r .side;
-      rows = 0;
-      cells = r .cells;
-      edge = backgroundBeyond;
-    }) ≡ false
-    go true = refl
-    go false = refl
+    go : (t : Bool) → eqb (r .kind) erosionKind ≡ t → kindForeign (back r) ≡ false
+    go true e = rw e
+    go false e = rw e
 
 pub back-taken : (r : Record) → foreign r ≡ false → foreign (back r) ≡ false
 unfolding foreign capForeign
@@ -58,17 +47,13 @@ back-taken r e =
     let s = sound r e in
     let w = s .wide in
     let h = s .high in
-    let f = neither (isSideOut (r .width) || isSideOut (r .height) || elementForeign (r .side) (r .cells) || kindForeign r)
-    (capForeign r) e in
-    let g = neither (isSideOut (r .width) || isSideOut (r .height) || elementForeign (r .side) (r .cells)) (kindForeign r) (f .0) in
-    let i = neither (isSideOut (r .width) || isSideOut (r .height)) (elementForeign (r .side) (r .cells)) (g .0) in
     let z = zero-mul (reach (r .side)) in
     let a = s .area-wide in
     let b = s .area-high in
     rw (
       side-fits (areaWidth r) (omega arith) (s .area-wide),
       side-fits (areaHeight r) (omega arith) (s .area-high),
-      i .1,
+      taken-parts r e .2,
       back-kind r,
       le-ltb longestSide (areaWidth (back r)) (omega arith),
       le-ltb longestSide (areaHeight (back r)) (omega arith),

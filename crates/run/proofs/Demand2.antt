@@ -50,7 +50,7 @@ use Rattle.run.proofs.RecordLaws.{Sound, sound}
 use Rattle.run.proofs.ScanCells.{partners-given, partners-turned}
 use Rattle.run.proofs.Starts.{judged, erosion-taken, dilation-taken}
 use Rattle.run.proofs.Started.{is-start, length-start}
-use Rattle.run.proofs.StartLevels.{level-on, level-unset, level-background, level-set, place-down}
+use Rattle.run.proofs.StartLevels.{level-on, level-off, level-unset, level-set, place-down}
 
 -- the record's cells mean the element
 pub cells-mean : (side : ℕ) (bytes : List ℕ) → Accepted side bytes
@@ -266,7 +266,7 @@ module _ (width height : ℕ) (sheet : List ℕ) (side : ℕ) (bytes : List ℕ)
           decide = background-decided width height decided;
           inside = λ x h. h .0;
           size = length-start width height (margin r₃) sheet none 1 none;
-          on = λ row col a b i. level-background width height (margin r₃) sheet row col none 1 none a b i;
+          on = λ row col a b i. level-off width height (margin r₃) sheet row col none 1 none a b (i .0) (i .1);
           off = λ row col a b i. level-set width height (margin r₃) sheet row col none 1 none a b refl i;
         }
 

@@ -210,30 +210,41 @@ sound-cap r q =
     let (cap, wide) = neither (ltb 2047 (r .cap)) (ltb 4096 (areaWidth r)) f in
     (ltb-false 2047 (r .cap) cap, ltb-false 4096 (areaWidth r) wide, ltb-false 4096 (areaHeight r) high)
 
+-- none of its parts is foreign
+pub taken-parts : (r : Record) → foreign r ≡ false
+    → (isSideOut (r .width) ≡ false) × (isSideOut (r .height) ≡ false) × (elementForeign (r .side) (r .cells) ≡ false) ×
+    (kindForeign r ≡ false) × (capForeign r ≡ false)
+unfolding foreign
+taken-parts r e =
+    let w = isSideOut (r .width) in
+    let h = isSideOut (r .height) in
+    let element = elementForeign (r .side) (r .cells) in
+    let (to-kind, cap) = neither (w || h || element || kindForeign r) (capForeign r) e in
+    let (to-element, kind) = neither (w || h || element) (kindForeign r) to-kind in
+    let (sides, shape) = neither (w || h) element to-element in
+    let (wide, high) = neither w h sides in
+    (wide, high, shape, kind, cap)
+
 pub sound : (r : Record) → foreign r ≡ false → Sound r
-unfolding foreign elementForeign
+unfolding elementForeign
 sound r e =
-    let c = neither (isSideOut (r .width) || isSideOut (r .height) || elementForeign (r .side) (r .cells) || kindForeign r)
-    (capForeign r) e in
-    let f = neither (isSideOut (r .width) || isSideOut (r .height) || elementForeign (r .side) (r .cells)) (kindForeign r) (c .0) in
-    let g = neither (isSideOut (r .width) || isSideOut (r .height)) (elementForeign (r .side) (r .cells)) (f .0) in
-    let s = neither (isSideOut (r .width)) (isSideOut (r .height)) (g .0) in
+    let (w, v, shape, kind, cap) = taken-parts r e in
     let h = neither (not (isSide (r .side)) || anyAbove 1 (r .cells) || anyOutside (r .side) (r .cells) 0 ||
-    eqb (getD (r .cells) 24 0) 0) (eqb (countSet (r .cells)) 1) (g .1) in
+    eqb (getD (r .cells) 24 0) 0) (eqb (countSet (r .cells)) 1) shape in
     let i = neither (not (isSide (r .side)) || anyAbove 1 (r .cells) || anyOutside (r .side) (r .cells) 0)
     (eqb (getD (r .cells) 24 0) 0) (h .0) in
     let j = neither (not (isSide (r .side)) || anyAbove 1 (r .cells)) (anyOutside (r .side) (r .cells) 0) (i .0) in
     let k = neither (not (isSide (r .side))) (anyAbove 1 (r .cells)) (j .0) in
-    let fits = sound-cap r (c .1) in
+    let fits = sound-cap r cap in
     record {
-      wide = side-in (r .width) (s .0);
-      high = side-in (r .height) (s .1);
+      wide = side-in (r .width) w;
+      high = side-in (r .height) v;
       side-is = not-false (isSide (r .side)) (k .0);
       binary = k .1;
       square = j .1;
       centre = eqb-false (getD (r .cells) 24 0) 0 (i .1);
       others = eqb-false (countSet (r .cells)) 1 (h .1);
-      kind-is = sound-kind r (f .1);
+      kind-is = sound-kind r kind;
       cap-small = fits .0;
       area-wide = fits .1;
       area-high = fits .2;

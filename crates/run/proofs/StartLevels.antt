@@ -91,7 +91,7 @@ module _ (width height margin : ℕ) (sheet : List ℕ) (row col : ℕ) where
         let same = ap₂ (pixel width sheet) (let f : row - margin ≡ r = omega arith in f) (let f : col - margin ≡ c = omega arith in f) in
         level-at ∙ rw (framed-on (r, c, i, j, e), eq-eqb (pixel width sheet (row - margin) (col - margin)) 1 (same ∙ v))
 
-    level-off : frame width height x → ¬ foreground width height sheet x → level ≡ off
+    pub level-off : frame width height x → ¬ foreground width height sheet x → level ≡ off
     level-off f n =
         let e = framed-on f in
         let (l, h, m, i) = framed-bounds width height margin row col e in
@@ -111,9 +111,6 @@ module _ (width height margin : ℕ) (sheet : List ℕ) (row col : ℕ) where
         go (no m) = level-outside m ∙ sym same
 
     -- where it starts as the foreground: all but the background
-    pub level-background : background width height (foreground width height sheet) x → level ≡ off
-    level-background (f, n) = level-off f n
-
     pub level-set : on ≡ outside → ¬ background width height (foreground width height sheet) x → level ≡ on
     level-set same n = go (frame-decided width height x) (figure-decided width height (pixel width sheet) x)
       where
