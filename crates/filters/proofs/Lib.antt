@@ -13,3 +13,4 @@ pub mod StoreLaws
 pub mod LevelRounds
 pub mod LevelAnswers
 pub mod PaddingLaws
+pub mod ChainLaws

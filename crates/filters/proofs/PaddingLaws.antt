@@ -11,7 +11,7 @@ use Rattle.grid.specs.Points.{Point, at}
 use Rattle.grid.specs.Sets.{PointSet, _≈_}
 use Rattle.grid.specs.Starred.{openingLevels, closingLevels}
 use Rattle.grid.proofs.LevelLaws.{last-unique, first-unique}
-use Rattle.grid.proofs.SameSets.{opened-same, closed-same, answer-same}
+use Rattle.grid.proofs.SameSets.{itself, opened-same, closed-same, answer-same}
 use Rattle.sheet.specs.SamePixels.{SamePixels}
 use Rattle.sheet.proofs.SamePixelsLaws.{same-set}
 use Rattle.filters.specs.declared.Input.{Input}
@@ -37,7 +37,7 @@ ignores input {lent} refusals {Right} alike carried one-thing one other e same =
     carry number after = answers-carried (alike one other e) (λ after h. (h .0, carried one other same (after .out) (h .1)))
 
 -- what is right of the same sets
-sheet-carried : {width height : ℕ} {A B : PointSet} → A ≈ B → (out : List ℕ) → IsSheet width height A out
+pub sheet-carried : {width height : ℕ} {A B : PointSet} → A ≈ B → (out : List ℕ) → IsSheet width height A out
     → IsSheet width height B out
 sheet-carried same out s = record {
   pixels = λ row col a b. let i = s .pixels row col a b in let p = at (pos row) (pos col) in
@@ -57,16 +57,16 @@ levels-carried {width} same out s = record {
 pub padding-changes-nothing : (input : Input) (bytes : List ℕ) (lent : Buffers) → PaddingIgnored input bytes lent
 padding-changes-nothing input bytes lent = record {
   opens = λ size. ignores input (λ sheet. openRefusals input sheet bytes size lent) (λ one other e. rw e)
-      (λ one other same. sheet-carried (opened-same (sets one other same) itself size))
+      (λ one other same. sheet-carried (opened-same (sets one other same) element size))
       (λ sheet. sheet-one (input .width) (input .height) _);
   closes = λ size. ignores input (λ sheet. closeRefusals input sheet bytes size lent) (λ one other e. rw e)
-      (λ one other same. sheet-carried (closed-same (sets one other same) itself size))
+      (λ one other same. sheet-carried (closed-same (sets one other same) element size))
       (λ sheet. sheet-one (input .width) (input .height) _);
   opening-levels = ignores input (λ sheet. openingRefusals input sheet bytes lent) (λ one other e. rw e)
-      (λ one other same. levels-carried (answer-same (sets one other same) itself openingLevels))
+      (λ one other same. levels-carried (answer-same (sets one other same) element openingLevels))
       (λ sheet. levels-one (input .width) (input .height) _ (λ p m n. last-unique));
   closing-levels = λ cap. ignores input (λ sheet. closingRefusals input sheet bytes cap lent) (λ one other e. rw e)
-      (λ one other same. levels-carried (answer-same (sets one other same) itself (closingLevels cap)))
+      (λ one other same. levels-carried (answer-same (sets one other same) element (closingLevels cap)))
       (λ sheet. levels-one (input .width) (input .height) _ (λ p m n. first-unique));
 }
   where
@@ -74,5 +74,5 @@ padding-changes-nothing input bytes lent = record {
         → foregroundOf input one ≈ foregroundOf input other
     sets one other same = same-set (input .width) (input .height) one other same
 
-    itself : elementOf input bytes ≈ elementOf input bytes
-    itself = ((λ x h. h), (λ x h. h))
+    element : elementOf input bytes ≈ elementOf input bytes
+    element = itself (elementOf input bytes)

@@ -11,12 +11,11 @@ use mathlib.Core.Logic.{_↔_, inl, inr}
 use mathlib.Core.List.{List, [], _∷_, _++_}
 use lib.Dec.{eqb, ltb}
 use lib.IntN.{pos}
-use lib.ListN.{length, replicate}
+use lib.ListN.{length}
 use Rattle.basics.specs.Bounds.{anyAbove}
 use Rattle.basics.specs.Limits.{largestSize, highestCap}
 use Rattle.basics.specs.Refusals.{Refusal, first, Answers}
 use Rattle.basics.specs.Tables.{table, raster}
-use Rattle.basics.proofs.RefusalLaws.{accepts, answers-unique}
 use Rattle.basics.proofs.TableLaws.{length-raster, getD-raster}
 use Rattle.grid.specs.Points.{Point, at}
 use Rattle.grid.specs.Sets.{PointSet}
@@ -34,22 +33,18 @@ use Rattle.run.specs.StarredRuns.{sheetOf, bytesOf, levelsOf, pictureOf}
 use Rattle.run.proofs.StarredRuns.{starred-runs, after-one-row}
 use Rattle.filters.specs.Filters.{Buffers, Cleared, IsSheet, AreLevels, openRefusals, openingRefusals, closingRefusals}
 use Rattle.filters.specs.Filters.{inputRefusals, isCanvasWrong, frameSize, closingSize, sheetSize}
-use Rattle.filters.specs.StarredFilters.{left, Gives, inputOf, FilterGives, FiltersGive, EveryStarredCase}
-use Rattle.filters.proofs.Uniqueness.{packed-sheet, sheet-one, levels-one, lent-one}
+use Rattle.filters.specs.StarredFilters.{Gives, inputOf, FilterGives, FiltersGive, EveryStarredCase}
+use Rattle.filters.proofs.Uniqueness.{packed-sheet, sheet-one, levels-one, gives}
 
--- where no refusal applies to buffers that fit, and the answer is right, the contract allows it; and what is right is one thing
-gives : (refusals : Buffers → List Refusal) (number : ℕ → ℕ → ℕ → ℕ)
+-- where the number goes by the lengths of the buffers, one computation of it serves all that fit
+gives-by-lengths : (refusals : Buffers → List Refusal) (number : ℕ → ℕ → ℕ → ℕ)
     → ((lent : Buffers) → first (refusals lent) ≡ number (length (lent .first)) (length (lent .second)) (length (lent .out)))
     → (Right : List ℕ → Type 0) → ((x y : List ℕ) → Right x → Right y → x ≡ y)
     → (work : ℕ) (answer : List ℕ) → number work work (length answer) ≡ 0 → Right answer
     → Gives (λ lent. Answers (refusals lent) lent (λ after. Cleared lent after × Right (after .out))) work answer
-gives refusals number by-lengths Right one work answer none right lent fits =
-    let z : first (refusals lent) ≡ 0 = by-lengths lent ∙ (rw (fits .first, fits .second, fits .out) none) in
-    let clear : Cleared lent (left work answer) =
-    record { first = ap (λ n. replicate n 0) (sym (fits .first)); second = ap (λ n. replicate n 0) (sym (fits .second)) } in
-    let allowed : Answers (refusals lent) lent (λ after. Cleared lent after × Right (after .out)) 0 (left work answer) =
-    accepts (left work answer) z (clear, right) in
-    (allowed, λ m after p. answers-unique (lent-one Right one lent) m 0 after (left work answer) p allowed)
+gives-by-lengths refusals number by-lengths Right one work answer none =
+    gives refusals Right one work answer
+    (λ lent fits. by-lengths lent ∙ (rw (fits .first, fits .second, fits .out) none))
 
 -- what is computed of a case: the number that its call answers, by the lengths of the buffers lent, and that its sheet is drawn
 -- in 0 and 1
@@ -153,13 +148,13 @@ module _ (c : Case) (binary : Binary c) where
       → IsAnswer q (figureOf c) (shapeOf c) (at (pos row) (pos col)) (drawn (c .expected) row col)) → FilterGives q c
   unfolding NotRefused openNumber closingNumber openingNumber
   given openingLevels t h =
-      gives (openingRefusals (inputOf c) (sheetOf c) (bytesOf c)) (openingNumber c) (λ lent. refl)
+      gives-by-lengths (openingRefusals (inputOf c) (sheetOf c) (bytesOf c)) (openingNumber c) (λ lent. refl)
       _ (levels-one (c .width) (c .height) _ (λ p m n. last-unique)) _ _ t (are-levels _ (same-answer openingLevels h))
   given (closingLevels R) t h =
-      gives (closingRefusals (inputOf c) (sheetOf c) (bytesOf c) R) (closingNumber c R) (λ lent. refl)
+      gives-by-lengths (closingRefusals (inputOf c) (sheetOf c) (bytesOf c) R) (closingNumber c R) (λ lent. refl)
       _ (levels-one (c .width) (c .height) _ (λ p m n. first-unique)) _ _ t (are-levels _ (same-answer (closingLevels R) h))
   given (openedBy n) t h =
-      gives (openRefusals (inputOf c) (sheetOf c) (bytesOf c) n) (openNumber c n) (λ lent. refl)
+      gives-by-lengths (openRefusals (inputOf c) (sheetOf c) (bytesOf c) n) (openNumber c n) (λ lent. refl)
       _ (sheet-one (c .width) (c .height) _) _ _ t (is-sheet _ (same-answer (openedBy n) h))
   given erosionLevels t h = tt
   given (dilationLevels R) t h = tt

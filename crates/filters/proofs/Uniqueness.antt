@@ -7,8 +7,9 @@ use mathlib.Core.Path.{_≡_, refl, sym, ap, _∙_}
 use mathlib.Core.Logic.{_↔_}
 use mathlib.Core.List.{List}
 use lib.IntN.{pos}
-use lib.ListN.{getD}
-use Rattle.basics.proofs.RefusalLaws.{answers-unique}
+use lib.ListN.{length, getD, replicate}
+use Rattle.basics.specs.Refusals.{Refusal, first, Answers}
+use Rattle.basics.proofs.RefusalLaws.{accepts, answers-unique}
 use Rattle.basics.proofs.TableLaws.{raster-is}
 use Rattle.grid.specs.Points.{Point, at}
 use Rattle.grid.specs.Sets.{PointSet}
@@ -17,6 +18,7 @@ use Rattle.sheet.specs.Sheets.{pixel, packed}
 use Rattle.sheet.proofs.PixelLaws.{pixel-binary, pixel-packed, packed-same}
 use Rattle.filters.specs.declared.Input.{Input}
 use Rattle.filters.specs.Filters.{Buffers, Cleared, IsSheet, AreLevels, Opens, Closes, OpeningLevels, ClosingLevels}
+use Rattle.filters.specs.StarredFilters.{Fits, left, Gives}
 
 module _ (width height : ℕ) where
   -- the sheet packed of a set's pixels
@@ -64,6 +66,17 @@ lent-one Right one lent x y p q =
     let b : x .second ≡ y .second = p .0 .second ∙ sym (q .0 .second) in
     let c = one (x .out) (y .out) (p .1) (q .1) in
     λ i. record { first = a i; second = b i; out = c i }
+
+-- where no refusal applies to buffers that fit, and the answer is right, the contract allows it and nothing else
+pub gives : (refusals : Buffers → List Refusal) (Right : List ℕ → Type 0) → ((x y : List ℕ) → Right x → Right y → x ≡ y)
+    → (work : ℕ) (answer : List ℕ) → ((lent : Buffers) → Fits work (length answer) lent → first (refusals lent) ≡ 0)
+    → Right answer → Gives (λ lent. Answers (refusals lent) lent (λ after. Cleared lent after × Right (after .out))) work answer
+gives refusals Right one work answer taken right lent fits =
+    let clear : Cleared lent (left work answer) =
+    record { first = ap (λ n. replicate n 0) (sym (fits .first)); second = ap (λ n. replicate n 0) (sym (fits .second)) } in
+    let allowed : Answers (refusals lent) lent (λ after. Cleared lent after × Right (after .out)) 0 (left work answer) =
+    accepts (left work answer) (taken lent fits) (clear, right) in
+    (allowed, λ m after p. answers-unique (lent-one Right one lent) m 0 after (left work answer) p allowed)
 
 -- THE FOUR CALLS
 module _ (input : Input) (sheet bytes : List ℕ) where

@@ -3,3 +3,4 @@ pub mod Plans
 pub mod Back
 pub mod StarredFilters
 pub mod PaddingIgnored
+pub mod Chains

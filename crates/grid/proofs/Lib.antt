@@ -6,5 +6,7 @@ pub mod FigureLaws
 pub mod ReachLaws
 pub mod Searches
 pub mod CropLaws
+pub mod StayLaws
+pub mod ChainLaws
 pub mod Existence
 pub mod Starred

@@ -26,14 +26,14 @@ element-reach side cell b odd (row, col, i, j, one, e) =
     near (pos c) n l f = let h = pos-inj f in omega arith
     near (negsuc c) n l f = let h = sum-neg (reach side) c n (+ℤ-comm (pos (reach side)) (negsuc c) ∙ f) in omega arith
 
--- a sum is no larger than its parts together
 -- turned about, a point is as far from the origin
 pub abs-turned : (z : ℤ) → natAbs (negℤ z) ≡ natAbs z
 abs-turned (pos zero) = refl
 abs-turned (pos (suc n)) = refl
 abs-turned (negsuc n) = refl
 
-abs-sum : (a b : ℤ) → natAbs (a +ℤ b) ≤ natAbs a + natAbs b
+-- a sum is no larger than its parts together
+pub abs-sum : (a b : ℤ) → natAbs (a +ℤ b) ≤ natAbs a + natAbs b
 abs-sum (pos m) (pos n) = omega arith
 abs-sum (pos m) (negsuc n) = signs (ltb m (suc n))
   where

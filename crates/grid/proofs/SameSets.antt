@@ -10,6 +10,13 @@ use Rattle.grid.specs.Starred.{Question, erosionLevels, openingLevels, d
 use Rattle.grid.specs.Starred.{croppedLevels, IsPixel, IsAnswer}
 use Rattle.grid.proofs.SetLaws.{dilate-parts, erode-parts}
 
+-- a set is the same as itself, and as one that is the same as one that it is the same as
+pub itself : (A : PointSet) → A ≈ A
+itself A = ((λ x h. h), (λ x h. h))
+
+pub and-so : {A B C : PointSet} → A ≈ B → B ≈ C → A ≈ C
+and-so f g = ((λ x h. g .0 x (f .0 x h)), (λ x h. f .1 x (g .1 x h)))
+
 fold-parts : (K L : PointSet) → K ⊆ L → (n : ℕ) → fold K n ⊆ fold L n
 fold-parts K L part zero = λ x h. h
 fold-parts K L part (suc n) = dilate-parts part (fold-parts K L part n)

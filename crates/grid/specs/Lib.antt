@@ -5,3 +5,4 @@ pub mod Levels
 pub mod Figures
 pub mod Crops
 pub mod Starred
+pub mod Chains
