@@ -238,7 +238,8 @@ uint32_t wt_provisional(const uint64_t *record, size_t record_len,
                         uint64_t *state, size_t state_len);
 
 /*
- * Opens a sheet by one size: erodes by it, then dilates by it.
+ * Opens a sheet by one size: erodes by it, then dilates by it. A chain of openings with one element, each of the sheet that
+ * the one before it gave, is one opening by the largest of its sizes, byte for byte.
  *
  *   width, height    the frame
  *   sheet            the sheet
@@ -259,7 +260,9 @@ uint32_t wt_open(uint64_t width, uint64_t height,
                  uint8_t *out, size_t out_len);
 
 /*
- * Closes a sheet by one size: dilates by it on the infinite grid, then erodes by it.
+ * Closes a sheet by one size: dilates by it on the infinite grid, then erodes by it. A chain of closings with one element is
+ * one closing by the largest of its sizes, as with openings. Dilations do not fold so: what the frame shows of one is not
+ * all of it.
  *
  *   width, height    the frame
  *   sheet            the sheet

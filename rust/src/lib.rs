@@ -131,6 +131,22 @@ impl Sheet {
 
     /// Opens the sheet by a size, 0 to 4096: erodes by it, then dilates by it.
     ///
+    /// A chain of openings with one element is one opening by its largest size, byte for byte:
+    ///
+    /// ```
+    /// use walugtirim::{Element, Sheet};
+    ///
+    /// # fn main() -> Result<(), walugtirim::Refusal> {
+    /// // The row 1 0 1 1 1, and the origin with its right neighbour.
+    /// let sheet = Sheet::new(5, 1, vec![0xB8]);
+    /// let pair = Element::new(3, vec![0, 0, 0, 0, 1, 1, 0, 0, 0]);
+    /// let chained = sheet.open(&pair, 1)?.open(&pair, 2)?;
+    /// assert_eq!(chained.bytes, [0x38]);
+    /// assert_eq!(chained, sheet.open(&pair, 2)?);
+    /// # Ok(())
+    /// # }
+    /// ```
+    ///
     /// # Errors
     /// 2 to 8, the lowest that applies.
     pub fn open(&self, element: &Element, size: u64) -> Result<Sheet, Refusal> {
@@ -139,6 +155,9 @@ impl Sheet {
     }
 
     /// Closes the sheet by a size, 0 to 2047: dilates by it on the infinite grid, then erodes by it.
+    ///
+    /// A chain of closings with one element is one closing by its largest size, byte for byte, as with [`Sheet::open`].
+    /// Dilations don't fold so: one that goes on from what the frame shows of another misses what came by way of beyond it.
     ///
     /// # Errors
     /// 2 to 9, the lowest that applies.

@@ -207,6 +207,34 @@ fn opening_and_closing() {
 }
 
 #[test]
+fn chained_filters_fold() {
+    let open = |sheet: &Sheet, size| sheet.open(&t(), size).unwrap();
+    let close = |sheet: &Sheet, size| sheet.close(&t(), size).unwrap();
+    let (sheet, ends) = (row("10111"), row("1001"));
+    for (first, second) in [(0, 1), (1, 0), (1, 1), (1, 2), (2, 1), (1, 3), (3, 1)] {
+        let larger = first.max(second);
+        assert_eq!(open(&open(&sheet, first), second), open(&sheet, larger));
+        assert_eq!(close(&close(&ends, first), second), close(&ends, larger));
+    }
+    assert_eq!(open(&open(&sheet, 1), 2), row("00111"));
+    assert_eq!(open(&open(&sheet, 3), 1), row("00000"));
+    assert_eq!(close(&close(&ends, 1), 2), row("1111"));
+}
+
+#[test]
+fn dilations_seen_in_the_frame_do_not_fold() {
+    let element = Element::new(3, vec![0, 0, 0, 1, 1, 0, 0, 0, 1]);
+    let column = Sheet::new(1, 2, vec![0x80, 0]);
+    let dilated = |sheet: &Sheet, size| {
+        let mut run = Run::start_dilation(sheet, &element, size).unwrap();
+        run.finish().unwrap();
+        run.threshold(size).unwrap()
+    };
+    assert_eq!(dilated(&dilated(&column, 1), 1), column);
+    assert_eq!(dilated(&column, 2), Sheet::new(1, 2, vec![0x80, 0x80]));
+}
+
+#[test]
 fn files_go_there_and_back() {
     let sheet = Sheet::new(9, 2, vec![0xAA, 0xFF, 0x55, 0x7F]);
     let file = sheet.write_pbm().unwrap();

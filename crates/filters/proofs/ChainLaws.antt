@@ -7,7 +7,7 @@ use native.Mathlib.Omega.{arith}
 use mathlib.Core.Path.{_≡_, refl, sym, ap, subst, _∙_}
 use mathlib.Core.List.{List, [], _∷_, _++_}
 use lib.Dec.{T, ltb}
-use lib.ListN.{length}
+use lib.ListN.{length, length-replicate}
 use borrow.Author.Tests.{eq-eqb}
 use Rattle.basics.specs.Limits.{largestSize, highestCap}
 use Rattle.basics.specs.Refusals.{Refusal, first, Answers}
@@ -28,8 +28,8 @@ use Rattle.run.proofs.Starts.{judged}
 use Rattle.filters.specs.declared.Input.{Input}
 use Rattle.filters.specs.Filters.{Buffers, Cleared, IsSheet, foregroundOf, elementOf, inputRefusals, isCanvasWrong}
 use Rattle.filters.specs.Filters.{isWorkWrong, isOutWrong, frameSize, closingSize, sheetSize}
-use Rattle.filters.specs.StarredFilters.{Fits, Gives}
-use Rattle.filters.specs.Chains.{ChainsFold, CallsFold}
+use Rattle.filters.specs.StarredFilters.{Fits, left, Gives}
+use Rattle.filters.specs.Chains.{SizedCall, Chain, last, next, largest, ChainsFold, CallsFold}
 use Rattle.filters.proofs.Uniqueness.{sheet-one, gives}
 use Rattle.filters.proofs.PaddingLaws.{sheet-carried}
 
@@ -59,7 +59,7 @@ module _ (input : Input) (bytes : List ℕ) (F : PointSet → ℕ → PointSet) 
   abbrev refusals : List ℕ → ℕ → Buffers → List Refusal
   refusals sheet n lent = inputRefusals input sheet bytes ++ (own n ++ later n lent)
 
-  abbrev Filter : List ℕ → ℕ → Buffers → ℕ → Buffers → Type 0
+  abbrev Filter : SizedCall
   Filter sheet n lent = Answers (refusals sheet n lent) lent (λ after. Cleared lent after × IsFiltered sheet n (after .out))
 
   module _ (numbers : (n : ℕ) → T (numbered (own n))) where
@@ -92,42 +92,55 @@ module _ (input : Input) (bytes : List ℕ) (F : PointSet → ℕ → PointSet) 
         go (yes l) = let e : max n m ≡ m = omega arith in rw e q
         go (no f) = let e : max n m ≡ n = omega arith in rw e p
 
-    module _ (same : (A B : PointSet) (n : ℕ) → A ≈ B → F A n ≈ F B n) where
-      -- what the second call gave is given by one call by any accepted size that holds the same set
-      given-once : (sheet : List ℕ) (n m k : ℕ) (lent after other x : Buffers) → Filter sheet n lent 0 after
-          → Filter (after .out) m other 0 x → first (own k) ≡ 0
-          → F (clipped w h (F (foregroundOf input sheet) n)) m ≈ F (foregroundOf input sheet) k
-          → Gives (Filter sheet k) (work k) (x .out)
-      given-once sheet n m k lent after other x p q good fold =
+    -- with an input and a size that are accepted, the right sheet is given
+    given : (sheet : List ℕ) (n : ℕ) (out : List ℕ) → first (inputRefusals input sheet bytes) ≡ 0 → first (own n) ≡ 0
+        → IsFiltered sheet n out → Gives (Filter sheet n) (work n) out
+    given sheet n out z s is =
+        gives (refusals sheet n) (IsFiltered sheet n) (sheet-one w h (F (foregroundOf input sheet) n)) (work n) out
+        (λ lent fits. fitting sheet n lent z s (subst (λ size. Fits (work n) size lent) (out-size sheet n out is) fits)) is
+
+    module _ (same : (A B : PointSet) (n : ℕ) → A ≈ B → F A n ≈ F B n)
+        (fold : elementOf input bytes origin → (A : PointSet) → A ⊆ frame w h → (n m : ℕ)
+        → F (clipped w h (F A n)) m ≈ F A (max n m)) where
+      folds : (sheet : List ℕ) (n m : ℕ) (lent after other x : Buffers) → Filter sheet n lent 0 after
+          → Filter (after .out) m other 0 x → Gives (Filter sheet (max n m)) (work (max n m)) (x .out)
+      folds sheet n m lent after other x p q =
+          let t = taken sheet n lent (sym (p .refusal)) in
+          let u = taken (after .out) m other (sym (q .refusal)) in
+          let z = judged w h sheet (input .side) bytes (t .0) in
           let A = foregroundOf input sheet in
           let second = same (foregroundOf input (after .out)) (clipped w h (F A n)) m
           (sheet-means w h (F A n) (after .out) (p .accepted refl .1)) in
-          let is : IsFiltered sheet k (x .out) =
-          sheet-carried (and-so second fold) (x .out) (q .accepted refl .1) in
-          gives (refusals sheet k) (IsFiltered sheet k) (sheet-one w h (F A k)) (work k) (x .out)
-          (λ room fits. fitting sheet k room (taken sheet n lent (sym (p .refusal)) .0) good
-          (subst (λ size. Fits (work k) size room) (out-size sheet k (x .out) is) fits))
-          is
+          let once = fold (accepted-origin (input .side) bytes (z .element)) A (figure-in w h (pixel w sheet)) n m in
+          given sheet (max n m) (x .out) (t .0) (larger-taken n m (t .1) (u .1))
+          (sheet-carried (and-so second once) (x .out) (q .accepted refl .1))
 
-      module _ (fold : elementOf input bytes origin → (A : PointSet) → A ⊆ frame w h → (n m : ℕ)
-          → F (clipped w h (F A n)) m ≈ F A (max n m)) where
+      -- a longer chain folds from its end: what stands after is one call, and folds with the one before
+      shortens : (sheet sizes answer : List ℕ) → Chain Filter sheet sizes answer
+          → Gives (Filter sheet (largest sizes)) (work (largest sizes)) answer
+      shortens _ _ _ (last sheet n lent after p) =
+          let t = taken sheet n lent (sym (p .refusal)) in
+          let alone : max n 0 ≡ n = omega arith in
+          rw alone (given sheet n (after .out) (t .0) (t .1) (p .accepted refl .1))
+      shortens _ _ _ (next sheet n lent after sizes answer p rest) =
+          let k = largest sizes in
+          let room = left (work k) answer in
+          let fits : Fits (work k) (length answer) room =
+          record { first = length-replicate (work k) 0; second = length-replicate (work k) 0; out = refl } in
+          folds sheet n k lent after room room p (shortens (after .out) sizes answer rest room fits .0)
+
+      chains-fold : ChainsFold Filter work
+      chains-fold = record {
         -- what is passed on has the length of the sheet, and so is refused as the sheet is
-        chains-fold : ChainsFold Filter work
-        chains-fold = record {
-          passes = λ sheet n m lent after other x y i j p q s.
-              let z = judged w h sheet (input .side) bytes (taken sheet n lent (sym (p .refusal)) .0) in
-              let e = same-refusals w h (after .out) sheet
-              (out-size sheet n (after .out) (p .accepted refl .1) ∙ sym (z .sheet-size)) in
-              q .refusal ∙ ap (λ list. first ((list ++ elementRefusals (input .side) bytes) ++ (own m ++ later m other))) e
-              ∙ sym (s .refusal);
-          folds = λ sheet n m lent after other x p q.
-              let t = taken sheet n lent (sym (p .refusal)) in
-              let u = taken (after .out) m other (sym (q .refusal)) in
-              let z = judged w h sheet (input .side) bytes (t .0) in
-              given-once sheet n m (max n m) lent after other x p q (larger-taken n m (t .1) (u .1))
-              (fold (accepted-origin (input .side) bytes (z .element)) (foregroundOf input sheet)
-              (figure-in w h (pixel w sheet)) n m);
-        }
+        passes = λ sheet n m lent after other x y i j p q s.
+            let z = judged w h sheet (input .side) bytes (taken sheet n lent (sym (p .refusal)) .0) in
+            let e = same-refusals w h (after .out) sheet
+            (out-size sheet n (after .out) (p .accepted refl .1) ∙ sym (z .sheet-size)) in
+            q .refusal ∙ ap (λ list. first ((list ++ elementRefusals (input .side) bytes) ++ (own m ++ later m other))) e
+            ∙ sym (s .refusal);
+        folds = folds;
+        shortens = shortens;
+      }
 
 -- THE TWO FILTERS
 pub calls-fold : (input : Input) (bytes : List ℕ) → CallsFold input bytes

@@ -56,11 +56,11 @@ unchanged width height A inside = ((λ x h. h .0), (λ x h. (h, inside x h)))
 
 pub clipped-openings-fold : ClippedOpeningsFold
 clipped-openings-fold width height A K inside n m =
-    and-so (opened-same (unchanged width height (opened A K n) (λ x h. inside x (openings-stay A K n x h))) (itself K) m)
-    (openings-fold A K n m)
+    let stay : opened A K n ⊆ frame width height = λ x h. inside x (openings-stay A K n x h) in
+    and-so (opened-same (unchanged width height (opened A K n) stay) (itself K) m) (openings-fold A K n m)
 
 pub clipped-closings-fold : ClippedClosingsFold
 clipped-closings-fold width height A inside side cell b has n m =
     let K = element side cell in
-    and-so (closed-same (unchanged width height (closed A K n) (closings-stay width height A inside side cell b has n)) (itself K) m)
-    (closings-fold A K n m)
+    let stay = closings-stay width height A inside side cell b has n in
+    and-so (closed-same (unchanged width height (closed A K n) stay) (itself K) m) (closings-fold A K n m)

@@ -16,15 +16,20 @@ use Rattle.grid.proofs.PointLaws.{pos-inj, sum-neg}
 pub figure-in : (width height : ℕ) (cell : ℕ → ℕ → ℕ) → figure width height cell ⊆ frame width height
 figure-in width height cell p (row, col, a, b, one, e) = (row, col, a, b, e)
 
--- an element of an odd side reaches half of it, less the centre
-pub element-reach : (side : ℕ) (cell : ℕ → ℕ → ℕ) (b : Point) → side % 2 ≡ 1 → element side cell b
-    → (natAbs (b .row) ≤ reach side) × (natAbs (b .col) ≤ reach side)
-element-reach side cell b odd (row, col, i, j, one, e) =
+-- an element lies within r, where r is no less than its reach to either side
+pub element-within : (side : ℕ) (cell : ℕ → ℕ → ℕ) (b : Point) (r : ℕ) → reach side ≤ r → side ≤ reach side + suc r
+    → element side cell b → (natAbs (b .row) ≤ r) × (natAbs (b .col) ≤ r)
+element-within side cell b r low high (row, col, i, j, one, e) =
     (near (b .row) row i (ap (λ p. p .row) e), near (b .col) col j (ap (λ p. p .col) e))
   where
-    near : (z : ℤ) (n : ℕ) → n < side → z +ℤ pos (reach side) ≡ pos n → natAbs z ≤ reach side
+    near : (z : ℤ) (n : ℕ) → n < side → z +ℤ pos (reach side) ≡ pos n → natAbs z ≤ r
     near (pos c) n l f = let h = pos-inj f in omega arith
     near (negsuc c) n l f = let h = sum-neg (reach side) c n (+ℤ-comm (pos (reach side)) (negsuc c) ∙ f) in omega arith
+
+-- one of an odd side reaches half of it, less the centre
+pub element-reach : (side : ℕ) (cell : ℕ → ℕ → ℕ) (b : Point) → side % 2 ≡ 1 → element side cell b
+    → (natAbs (b .row) ≤ reach side) × (natAbs (b .col) ≤ reach side)
+element-reach side cell b odd = element-within side cell b (reach side) (omega arith) (omega arith)
 
 -- turned about, a point is as far from the origin
 pub abs-turned : (z : ℤ) → natAbs (negℤ z) ≡ natAbs z

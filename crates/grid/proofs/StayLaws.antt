@@ -8,22 +8,11 @@ use native.Mathlib.Omega.{arith}
 use lib.IntN.{ℤ, pos, negsuc, negℤ, _+ℤ_, _-ℤ_, natAbs, +ℤ-idr, +ℤ-assoc, +ℤ-comm, +ℤ-negℤ-cancel, negℤ-+ℤ}
 use Rattle.grid.specs.Points.{Point, at, origin, _⊕_}
 use Rattle.grid.specs.Sets.{PointSet, fold, closed}
-use Rattle.grid.specs.Figures.{reach, element}
+use Rattle.grid.specs.Figures.{element}
 use Rattle.grid.specs.Chains.{ClosingsStay}
-use Rattle.grid.proofs.PointLaws.{pos-inj, sum-neg}
-use Rattle.grid.proofs.ReachLaws.{abs-turned, abs-sum, fold-reach, times, times-fold}
+use Rattle.grid.proofs.ReachLaws.{element-within, abs-turned, abs-sum, fold-reach, times, times-fold}
 
--- an element of any side lies as near as its side
-element-near : (side : ℕ) (cell : ℕ → ℕ → ℕ) (b : Point) → element side cell b
-    → (natAbs (b .row) ≤ side) × (natAbs (b .col) ≤ side)
-element-near side cell b (row, col, i, j, one, e) =
-    (near (b .row) row i (ap (λ p. p .row) e), near (b .col) col j (ap (λ p. p .col) e))
-  where
-    near : (z : ℤ) (n : ℕ) → n < side → z +ℤ pos (reach side) ≡ pos n → natAbs z ≤ side
-    near (pos c) n l f = let h = pos-inj f in omega arith
-    near (negsuc c) n l f = let h = sum-neg (reach side) c n (+ℤ-comm (pos (reach side)) (negsuc c) ∙ f) in omega arith
-
--- integers: what is added on the left goes, and what was added is how far the sum is
+-- of integers: what is added on the left on both sides may go; a difference is no larger than both its ends together
 cancel-left : (z p q : ℤ) → z +ℤ p ≡ z +ℤ q → p ≡ q
 cancel-left z p q e =
     sym (+ℤ-negℤ-cancel p z) ∙ ap (λ y. y -ℤ z) (+ℤ-comm p z ∙ e ∙ +ℤ-comm z q) ∙ +ℤ-negℤ-cancel q z
@@ -106,8 +95,14 @@ module _ (A K : PointSet) (b₀ : Point) (has : K b₀) (r n : ℕ) where
 
 pub closings-stay : ClosingsStay
 closings-stay width height A inside side cell b has n x h =
-    let (row, i, e) = side-kept A (element side cell) b has side n (λ p. p .row) refl (λ p q. refl)
-    (λ c k. element-near side cell c k .0) height (λ a ha. let (r, c, k, l, f) = inside a ha in (r, k, ap (λ p. p .row) f)) x h in
-    let (col, j, f) = side-kept A (element side cell) b has side n (λ p. p .col) refl (λ p q. refl)
-    (λ c k. element-near side cell c k .1) width (λ a ha. let (r, c, k, l, f) = inside a ha in (c, l, ap (λ p. p .col) f)) x h in
+    let (row, i, e) = side-kept A K b has side n (λ p. p .row) refl (λ p q. refl) (λ c k. near c k .0) height
+    (λ a ha. let (r, c, k, l, f) = inside a ha in (r, k, ap (λ p. p .row) f)) x h in
+    let (col, j, f) = side-kept A K b has side n (λ p. p .col) refl (λ p q. refl) (λ c k. near c k .1) width
+    (λ a ha. let (r, c, k, l, f) = inside a ha in (c, l, ap (λ p. p .col) f)) x h in
     (row, col, i, j, ap₂ at e f)
+  where
+    K : PointSet
+    K = element side cell
+
+    near : (c : Point) → K c → (natAbs (c .row) ≤ side) × (natAbs (c .col) ≤ side)
+    near c = element-within side cell c side (omega arith) (omega arith)

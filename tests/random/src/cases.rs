@@ -334,6 +334,52 @@ fn levels_of_crops_printed() -> bool {
     number == 0 && after.bytes_out == text && after.words_out == [text.len() as u64]
 }
 
+/// The sheet that a filter answers; empty where it is refused.
+fn filtered(name: Name, sheet: &Drawn, cells: &[u8], size: u64) -> Drawn {
+    let (number, after) = number_and_after(&given(name, sheet, cells, size));
+    Drawn {
+        bytes: if number == 0 {
+            after.bytes_out
+        } else {
+            Vec::new()
+        },
+        ..*sheet
+    }
+}
+
+/// The sheet of two calls chained, the first by one size and the second by another.
+fn chained(name: Name, sheet: &Drawn, cells: &[u8], sizes: [u64; 2]) -> Vec<u8> {
+    let passed = filtered(name, sheet, cells, sizes[0]);
+    filtered(name, &passed, cells, sizes[1]).bytes
+}
+
+/// Chains that fold, of the rows of cases 6 and 7.
+fn filters_chained() -> bool {
+    let row = drawn(&["10111"]);
+    let ends = drawn(&["1001"]);
+    let open = |sizes| chained(Name::Open, &row, &T, sizes);
+    let close = |sizes| chained(Name::Close, &ends, &T, sizes);
+    let [kept, none] = [drawn(&["00111"]).bytes, drawn(&["00000"]).bytes];
+    let full = drawn(&["1111"]).bytes;
+    open([0, 1]) == kept
+        && open([1, 2]) == kept
+        && open([2, 1]) == kept
+        && open([1, 3]) == none
+        && open([3, 1]) == none
+        && close([0, 1]) == ends.bytes
+        && close([1, 2]) == full
+        && close([2, 1]) == full
+}
+
+/// Dilations within the frame don't fold: case 5's lower point is reached by way of beyond the frame.
+fn dilations_chained() -> bool {
+    let element = [0, 0, 0, 1, 1, 0, 0, 0, 1];
+    let sheet = drawn(&["1", "0"]);
+    let dilated = |size| thresholded(&given(Name::StartDilation, &sheet, &element, size), size);
+    // By 1 the frame shows the sheet itself, so by 1 again it does too.
+    dilated(1) == (0, sheet.bytes.clone()) && dilated(2) == (0, drawn(&["1", "1"]).bytes)
+}
+
 /// The largest sheet, full, with the box: the level is the distance to the nearest border.
 fn largest_erosion() -> bool {
     let side: u64 = 4096;
@@ -392,7 +438,7 @@ fn longest_opening() -> bool {
 
 type Case = (&'static str, fn() -> bool);
 
-const CASES: [Case; 19] = [
+const CASES: [Case; 21] = [
     ("case 1: full 3 by 3, cross", case_1),
     ("case 2: full 5 by 1, right neighbour", case_2),
     ("case 3: the same, reflected", case_3),
@@ -408,6 +454,8 @@ const CASES: [Case; 19] = [
     ("crops: by way of beyond the frame", crops_beyond_the_frame),
     ("crops: sheets of sizes up to the cap", sheets_of_crops),
     ("crops: levels printed", levels_of_crops_printed),
+    ("chains: openings and closings fold", filters_chained),
+    ("chains: dilations in the frame do not", dilations_chained),
     ("largest frame: erosion of 4,096 by 4,096", largest_erosion),
     ("largest canvas: dilation with cap 2,047", largest_dilation),
     ("longest crop: a row of 2,050 with cap 1,023", longest_crop),

@@ -4,14 +4,15 @@
 //!
 //! First come the sheets worked by hand, the largest sheets, and all calls of a small scale; then the random rounds.
 //! Every round makes random calls of every function, sound and damaged, and compares the number and every lent slice
-//! with what the rules say; and it works runs of all kinds, whole and in slices, looks at them at their cuts, and
-//! compares them with the definitions. The same seed and rounds give the same calls. `--trace` prints each call to
+//! with what the rules say; it works runs of all kinds, whole and in slices, looks at them at their cuts, and compares
+//! them with the definitions; and it chains filters. The same seed and rounds give the same calls. `--trace` prints each call to
 //! standard error before it is made, for a library that crashes. The last line is `random: N passed, M failed`, and the
 //! exit status is 0 exactly when M is 0.
 #![deny(unsafe_code)]
 
 mod call;
 mod cases;
+mod chains;
 mod check;
 mod damage;
 mod definitions;
@@ -98,6 +99,10 @@ fn expected_tests() -> Tally {
         }
         tally.expect(looks::test_of(kind));
     }
+    for name in chains::FILTERS {
+        tally.expect(chains::folding_of(name));
+        tally.expect(chains::passing_of(name));
+    }
     tally
 }
 
@@ -134,6 +139,7 @@ fn main() -> ExitCode {
         check::check_calls(&mut tally, &mut dice, scale);
         check::check_runs(&mut tally, &mut dice, scale);
         check::check_there_and_back(&mut tally, &mut dice, scale);
+        chains::check_chains(&mut tally, &mut dice, scale);
     }
     println!("{:<52} {:>9}", "test", "tries");
     let (passed, failed) = tally.print();

@@ -30,10 +30,8 @@ pub fn sound_call(dice: &mut Dice, name: Name, scale: Scale) -> Call {
     if name == Name::ReadPbm {
         call.file = file(dice, scale);
     }
-    if name.takes_cap() {
-        call.number = cap(dice, call.side, scale);
-    } else if name == Name::Open {
-        call.number = opening_size(dice);
+    if name.takes_cap() || name == Name::Open {
+        call.number = filter_size(dice, name, call.side, scale);
     }
     lend_due_lengths(&mut call);
     if name.takes_record() {
@@ -176,6 +174,15 @@ pub fn element(dice: &mut Dice) -> (u64, Vec<u8>) {
     (side, cells)
 }
 
+/// A size or cap that the call takes with an element of this side.
+pub fn filter_size(dice: &mut Dice, name: Name, side: u64, scale: Scale) -> u64 {
+    if name.takes_cap() {
+        cap(dice, side, scale)
+    } else {
+        opening_size(dice)
+    }
+}
+
 /// A cap that keeps the definitions affordable.
 fn cap(dice: &mut Dice, side: u64, scale: Scale) -> u64 {
     let reach = (side - 1) / 2;
@@ -297,7 +304,7 @@ fn digits(dice: &mut Dice, file: &mut Vec<u8>, number: u64) {
 }
 
 /// Random contents for what the call is to overwrite.
-fn scramble(dice: &mut Dice, call: &mut Call) {
+pub fn scramble(dice: &mut Dice, call: &mut Call) {
     if Kind::started_by(call.name).is_some() {
         call.levels
             .iter_mut()
