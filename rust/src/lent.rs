@@ -258,7 +258,8 @@ fn filter<T>(
     })
 }
 
-/// Opens a sheet by a size. Each work buffer has as many levels as the frame has points.
+/// Opens a sheet by a size. Each work buffer has as many levels as the frame has points. A chain of openings is one by its
+/// largest size, as with [`crate::Sheet::open`].
 ///
 /// # Errors
 /// 2 to 8, 10, 11, the first that applies.
@@ -272,7 +273,8 @@ pub fn open(
     filter(c::wt_open, given, size, work_a, work_b, out)
 }
 
-/// Closes a sheet by a size. Each work buffer has as many levels as the canvas whose cap is the size has points.
+/// Closes a sheet by a size. Each work buffer has as many levels as the canvas whose cap is the size has points. A chain of
+/// closings is one by its largest size, as with [`crate::Sheet::close`].
 ///
 /// # Errors
 /// 2 to 11, the first that applies.
