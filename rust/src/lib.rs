@@ -157,7 +157,8 @@ impl Sheet {
     /// Closes the sheet by a size, 0 to 2047: dilates by it on the infinite grid, then erodes by it.
     ///
     /// A chain of closings with one element is one closing by its largest size, byte for byte, as with [`Sheet::open`].
-    /// Dilations don't fold so: one that goes on from what the frame shows of another misses what came by way of beyond it.
+    /// Dilations don't fold so: one that starts from what the frame shows of another misses what is reached by way of
+    /// beyond it.
     ///
     /// # Errors
     /// 2 to 9, the lowest that applies.

@@ -10,7 +10,7 @@ use Rattle.grid.specs.Starred.{Question, erosionLevels, openingLevels, d
 use Rattle.grid.specs.Starred.{croppedLevels, IsPixel, IsAnswer}
 use Rattle.grid.proofs.SetLaws.{dilate-parts, erode-parts}
 
--- a set is the same as itself, and as one that is the same as one that it is the same as
+-- being the same: of a set and itself, and from one pair on to the next
 pub itself : (A : PointSet) → A ≈ A
 itself A = ((λ x h. h), (λ x h. h))
 

@@ -5,9 +5,9 @@
 //! First come the sheets worked by hand, the largest sheets, and all calls of a small scale; then the random rounds.
 //! Every round makes random calls of every function, sound and damaged, and compares the number and every lent slice
 //! with what the rules say; it works runs of all kinds, whole and in slices, looks at them at their cuts, and compares
-//! them with the definitions; and it chains filters. The same seed and rounds give the same calls. `--trace` prints each call to
-//! standard error before it is made, for a library that crashes. The last line is `random: N passed, M failed`, and the
-//! exit status is 0 exactly when M is 0.
+//! them with the definitions; and it chains filters. The same seed and rounds give the same calls. `--trace` prints each
+//! call to standard error before it is made, for a library that crashes. The last line is `random: N passed, M failed`,
+//! and the exit status is 0 exactly when M is 0.
 #![deny(unsafe_code)]
 
 mod call;
