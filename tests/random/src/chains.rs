@@ -3,13 +3,11 @@
 //! on is refused where the first sheet would be.
 
 use crate::call::{Call, Name};
-use crate::check::check;
+use crate::check::{check, print_small};
 use crate::damage::damage;
 use crate::dice::Dice;
 use crate::raw::perform;
 use crate::report::{describe, Tally};
-use crate::rules::judge;
-use crate::shrink::shrink;
 use crate::sound::{filter_size, lend_due_lengths, scramble, sound_call, Scale};
 
 /// The calls that are chained.
@@ -64,12 +62,7 @@ fn check_chain(tally: &mut Tally, first: &Call, sizes: &[u64]) {
     let test = folding_of(first.name);
     tally.tried(&test);
     if compare_chain(first, sizes).is_err() && tally.differs(&test) {
-        let small = shrink(first, |call| {
-            judge(call).0 == 0 && compare_chain(call, sizes).is_err()
-        });
-        println!("DIFFERENCE in {test}, made small:");
-        print!("{}", describe(&small));
-        print!("{}", compare_chain(&small, sizes).err().unwrap_or_default());
+        print_small(&test, first, |call| compare_chain(call, sizes));
     }
 }
 

@@ -46,6 +46,14 @@ pub fn check(tally: &mut Tally, call: &Call) -> Option<(u32, Call)> {
     None
 }
 
+/// Prints the smallest accepted call found for which a comparison still fails, and why it does.
+pub fn print_small(test: &str, call: &Call, compare: impl Fn(&Call) -> Result<(), String>) {
+    let small = shrink(call, |call| judge(call).0 == 0 && compare(call).is_err());
+    println!("DIFFERENCE in {test}, made small:");
+    print!("{}", describe(&small));
+    print!("{}", compare(&small).err().unwrap_or_default());
+}
+
 /// A sound call of every function, and damaged ones.
 pub fn check_calls(tally: &mut Tally, dice: &mut Dice, scale: Scale) {
     for name in Name::ALL {
@@ -149,11 +157,7 @@ fn canvas_width(start: &Call) -> u64 {
     }
 }
 
-/// Why a whole run differs from the definitions, if it does: its collected levels, and its sheets of several sizes.
-fn run_difference(start: &Call) -> Option<String> {
-    compare_run(start).err()
-}
-
+/// Compares a whole run with the definitions: its collected levels, and its sheets of several sizes.
 fn compare_run(start: &Call) -> Result<(), String> {
     let (number, started) = perform(start)?;
     if number != 0 {
@@ -220,16 +224,11 @@ fn run_tests(start: &Call) -> Vec<String> {
 
 /// Compares one whole run with the definitions.
 pub fn check_run(tally: &mut Tally, start: &Call) {
-    let difference = run_difference(start);
+    let differs = compare_run(start).is_err();
     for test in run_tests(start) {
         tally.tried(&test);
-        if difference.is_some() && tally.differs(&test) {
-            let small = shrink(start, |call| {
-                judge(call).0 == 0 && run_difference(call).is_some()
-            });
-            println!("DIFFERENCE in {test}, made small:");
-            print!("{}", describe(&small));
-            print!("{}", run_difference(&small).unwrap_or_default());
+        if differs && tally.differs(&test) {
+            print_small(&test, start, compare_run);
         }
     }
 }
@@ -244,33 +243,36 @@ pub fn check_runs(tally: &mut Tally, dice: &mut Dice, scale: Scale) {
     }
 }
 
-/// Whether writing a sheet and reading it gives the same frame and pixels.
-fn comes_back(write: &Call) -> bool {
-    let Ok((0, written)) = perform(write) else {
-        return false;
-    };
+/// Writes a sheet and reads it, and compares frame and pixels.
+fn compare_back(write: &Call) -> Result<(), String> {
+    let (number, written) = perform(write)?;
     let length = usize::try_from(written.words_out[0]).unwrap_or(usize::MAX);
     let Some(file) = written.bytes_out.get(..length) else {
-        return false;
+        return Err(format!("    written with {number}, {length} bytes\n"));
     };
     let mut read = Call::new(Name::ReadPbm);
     read.file = file.to_vec();
     read.set_length(Field::BytesOut, write.sheet.len());
     read.set_length(Field::WordsOut, 2);
-    let Ok((0, back)) = perform(&read) else {
-        return false;
-    };
+    let (number_back, back) = perform(&read)?;
     let set = |bytes: &[u8]| sheet_set(write.width, write.height, bytes);
-    back.words_out == [write.width, write.height] && set(&back.bytes_out).same(&set(&write.sheet))
+    let same = [number, number_back] == [0, 0]
+        && back.words_out == [write.width, write.height]
+        && set(&back.bytes_out).same(&set(&write.sheet));
+    if same {
+        return Ok(());
+    }
+    Err(format!(
+        "    written with {number}, read with {number_back}: frame {:?}, sheet {:?}\n",
+        back.words_out, back.bytes_out
+    ))
 }
 
 pub fn check_there_and_back(tally: &mut Tally, dice: &mut Dice, scale: Scale) {
     const TEST: &str = "a PBM written is read as the same sheet";
     let write = sound_call(dice, Name::WritePbm, scale);
     tally.tried(TEST);
-    if !comes_back(&write) && tally.differs(TEST) {
-        let small = shrink(&write, |call| judge(call).0 == 0 && !comes_back(call));
-        println!("DIFFERENCE in {TEST}, made small:");
-        print!("{}", describe(&small));
+    if compare_back(&write).is_err() && tally.differs(TEST) {
+        print_small(TEST, &write, compare_back);
     }
 }

@@ -2,14 +2,13 @@
 //! eroded set, and a dilation's lies within the dilated set; no level is below its final one, and no row raises one.
 
 use crate::call::{Call, Name};
-use crate::check::call_on_run;
+use crate::check::{call_on_run, print_small};
 use crate::dice::Dice;
 use crate::kinds::Kind;
 use crate::pictures;
 use crate::raw::perform;
-use crate::report::{describe, Tally};
+use crate::report::Tally;
 use crate::rules::{frame_points, judge, points_below, sheet_set};
-use crate::shrink::shrink;
 use crate::sound::allowance;
 
 /// The test that looks at a kind of run belong to.
@@ -143,11 +142,8 @@ pub fn check_looks(tally: &mut Tally, start: &Call, cuts: Cuts) {
     let test = test_of(Kind::started_by(start.name).expect("a start"));
     tally.tried(&test);
     if compare_looks(start, cuts).is_err() && tally.differs(&test) {
-        let small = shrink(start, |call| {
-            judge(call).0 == 0 && compare_looks(call, cuts).is_err()
+        print_small(&test, start, |call| {
+            compare_looks(call, cuts).map_err(|text| format!("    cut at {cuts:?}\n{text}"))
         });
-        println!("DIFFERENCE in {test}, made small, {cuts:?}:");
-        print!("{}", describe(&small));
-        print!("{}", compare_looks(&small, cuts).err().unwrap_or_default());
     }
 }
