@@ -43,9 +43,10 @@
  *     5   an element byte above 1
  *     6   the element's centre is 0
  *     7   the element's centre is its only point (so side 1 always earns 5, 6 or 7)
- *     8   a size or cap outside its range; in PGM writing, a level above the maximum
+ *     8   a size or cap outside its range, also a size of a map, which is judged last; in PGM writing, a level above the
+ *         maximum
  *     9   a canvas side above 4,096
- *    10   the length of the levels, or of a work buffer, is wrong
+ *    10   the length of the levels, of a map, or of a work buffer, is wrong
  *    11   the length of an answer slice is wrong; in file reading and writing, room shorter than what is written
  *    12   an allowance above 8,192
  *    13   a picture asked of a run with rows still due
@@ -323,6 +324,31 @@ uint32_t wt_closing_levels(uint64_t width, uint64_t height,
                            uint16_t *work_a, size_t work_a_len,
                            uint16_t *work_b, size_t work_b_len,
                            uint16_t *out, size_t out_len);
+
+/*
+ * Dilates each foreground point by a size of its own, which a map gives: one scan, whatever the sizes. The sheet is the union,
+ * over the foreground points a, of the element added to itself S(a) times and moved to a, taken on the infinite grid and seen in
+ * the frame. Where the map gives one size n everywhere, it is what wt_threshold gives at n of a dilation with the same cap.
+ *
+ *   width, height   the frame
+ *   sheet           the sheet
+ *   side, cells     the element
+ *   cap             R, 0 to 2,047; the canvas is that of R
+ *   map             width * height sizes, row by row: S(a), 0 to R, at each foreground point a. What stands at background
+ *                   points doesn't matter.
+ *   work            as many levels as the canvas has points; what they hold doesn't matter, and all become zero
+ *   out             a sheet of the frame: the dilated sheet
+ *
+ * Refusals, in order: 2, 3, 4, 5, 6, 7, 8, 9, 10 (map or work), 11, and last 8 for a size above R at a foreground point.
+ */
+uint32_t wt_dilate_by_map(uint64_t width, uint64_t height,
+                          const uint8_t *sheet, size_t sheet_len,
+                          uint64_t side,
+                          const uint8_t *cells, size_t cells_len,
+                          uint64_t cap,
+                          const uint16_t *map, size_t map_len,
+                          uint16_t *work, size_t work_len,
+                          uint8_t *out, size_t out_len);
 
 /*
  * Reflects an element about its origin: the cell at each b takes the byte at -b.

@@ -1,16 +1,19 @@
 -- The answers of opening and closing by a size: the sheet kept after the way back is the set's.
-use Prim.Native.Nat.{ℕ, _*_, _≤_}
+use Prim.Native.Nat.{ℕ, _*_, _≤_, _<_}
 use native.Mathlib.Nat.{le-refl}
 use native.Mathlib.Omega.{arith}
 use mathlib.Core.Path.{_≡_, refl, sym, ap, _∙_}
 use mathlib.Core.Bool.{Bool, true, false, cond}
+use mathlib.Core.Logic.{_↔_}
 use mathlib.Core.List.{List}
+use lib.IntN.{pos}
 use lib.ListN.{length, replicate}
 use Rattle.basics.specs.Limits.{largestSize, highestCap}
 use Rattle.basics.specs.Refusals.{first}
 use Rattle.basics.proofs.RefusalLaws.{accepts}
+use Rattle.grid.specs.Points.{at}
 use Rattle.grid.specs.Sets.{PointSet}
-use Rattle.sheet.specs.Sheets.{rowBytes}
+use Rattle.sheet.specs.Sheets.{rowBytes, packed}
 use Rattle.run.specs.declared.Record.{Record}
 use Rattle.run.specs.Kinds.{isHeldAt}
 use Rattle.run.specs.Pictures.{frameLevel}
@@ -26,17 +29,15 @@ use Rattle.filters.proofs.FirstRuns.{lastSize, first-size, first-ready,
 use Rattle.filters.proofs.Refusing.{Taken, taken, start-taken}
 use Rattle.filters.proofs.Uniqueness.{packed-sheet}
 
--- the sheet kept is the set's
-kept-sheet : (r : Record) (levels : List ℕ) (limit n : ℕ) (F : ℕ → PointSet) → HoldsBack r levels limit F → n ≤ limit
-    → (out : List ℕ) → out ≡ keptSheet r (wayBack r levels n) n → IsSheet (r .width) (r .height) (F n) out
-unfolding keptSheet
-kept-sheet r levels limit n F holds l out e =
-    packed-sheet (r .width) (r .height) (F n) (λ row col. cond (held row col) 1 0) out e (λ row col _ _. small (held row col))
-    (λ row col a b. let i = holds n l row col a b in ((λ h. one (held row col) (i .0 h)), (λ h. i .1 (is (held row col) h))))
+-- what is packed by a test that holds exactly on a set is the set's sheet
+pub tested-sheet : (width height : ℕ) (A : PointSet) (held : ℕ → ℕ → Bool) (out : List ℕ)
+    → out ≡ packed width height (λ row col. cond (held row col) 1 0)
+    → ((row col : ℕ) → row < height → col < width → A (at (pos row) (pos col)) ↔ (held row col ≡ true))
+    → IsSheet width height A out
+tested-sheet width height A held out e is =
+    packed-sheet width height A (λ row col. cond (held row col) 1 0) out e (λ row col _ _. small (held row col))
+    (λ row col a b. let i = is row col a b in ((λ h. one (held row col) (i .0 h)), (λ h. i .1 (yes (held row col) h))))
   where
-    held : ℕ → ℕ → Bool
-    held row col = isHeldAt (back r) n (frameLevel r (wayBack r levels n) row col)
-
     small : (t : Bool) → cond t 1 0 ≤ 1
     small true = omega arith
     small false = omega arith
@@ -44,9 +45,17 @@ kept-sheet r levels limit n F holds l out e =
     one : (t : Bool) → t ≡ true → _≡_ {A = ℕ} (cond t 1 0) 1
     one t e = rw e
 
-    is : (t : Bool) → _≡_ {A = ℕ} (cond t 1 0) 1 → t ≡ true
-    is true e = refl
-    is false e = absurd (omega arith)
+    yes : (t : Bool) → _≡_ {A = ℕ} (cond t 1 0) 1 → t ≡ true
+    yes true e = refl
+    yes false e = absurd (omega arith)
+
+-- the sheet kept is the set's
+kept-sheet : (r : Record) (levels : List ℕ) (limit n : ℕ) (F : ℕ → PointSet) → HoldsBack r levels limit F → n ≤ limit
+    → (out : List ℕ) → out ≡ keptSheet r (wayBack r levels n) n → IsSheet (r .width) (r .height) (F n) out
+unfolding keptSheet
+kept-sheet r levels limit n F holds l out e =
+    tested-sheet (r .width) (r .height) (F n) (λ row col. isHeldAt (back r) n (frameLevel r (wayBack r levels n) row col)) out e
+    (holds n l)
 
 -- an accepted plan: its first run may be started and is ready, and the buffers are cleared in the end
 module _ (input : Input) (sheet bytes : List ℕ) (plan : Plan) (lent : Buffers) where

@@ -1,6 +1,6 @@
 // Opening, closing and their transforms: a finished erosion or dilation, and the way back from it at each size asked for.
 mod answering;
-mod back;
+pub mod back;
 mod judging;
 mod levels;
 

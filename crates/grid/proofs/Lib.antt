@@ -10,3 +10,4 @@ pub mod StayLaws
 pub mod ChainLaws
 pub mod Existence
 pub mod Starred
+pub mod SizeLaws

@@ -45,6 +45,10 @@ pub pos-inj : {m n : ℕ} → pos m ≡ pos n → m ≡ n
 unfolding toℕ
 pos-inj p = ap toℕ p
 
+pub negsuc-inj : {m n : ℕ} → negsuc m ≡ negsuc n → m ≡ n
+unfolding toℕ
+negsuc-inj p = ap toℕ p
+
 -- an equation of integers, with the negative part moved across
 pub sum-neg : (a c d : ℕ) → pos a +ℤ negsuc c ≡ pos d → a ≡ d + suc c
 sum-neg a c d e = pos-inj (sym (-ℤ-+ℤ-cancel (pos a) (pos (suc c))) ∙ ap (λ z. z +ℤ pos (suc c)) e)

@@ -17,7 +17,7 @@ itself A = ((λ x h. h), (λ x h. h))
 pub and-so : {A B C : PointSet} → A ≈ B → B ≈ C → A ≈ C
 and-so f g = ((λ x h. g .0 x (f .0 x h)), (λ x h. f .1 x (g .1 x h)))
 
-fold-parts : (K L : PointSet) → K ⊆ L → (n : ℕ) → fold K n ⊆ fold L n
+pub fold-parts : (K L : PointSet) → K ⊆ L → (n : ℕ) → fold K n ⊆ fold L n
 fold-parts K L part zero = λ x h. h
 fold-parts K L part (suc n) = dilate-parts part (fold-parts K L part n)
 

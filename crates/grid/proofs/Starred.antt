@@ -103,7 +103,7 @@ Tested (erodedBy n) A K x v = IsPixel (eroded A K n x) v
 Tested (openedBy n) A K x v = IsPixel (opened A K n x) v
 Tested (croppedLevels width height R) A K x v = UpToAt R (uncropped width height A) K x v
 
-pixel-dec : (P : Type 0) → Dec P → (v : ℕ) → Dec (IsPixel P v)
+unfoldable pub pixel-dec : (P : Type 0) → Dec P → (v : ℕ) → Dec (IsPixel P v)
 pixel-dec P (yes p) v = same-dec (λ e. inl (e, p)) one (ℕ-discrete v 1)
   where
     one : IsPixel P v → v ≡ 1

@@ -6,3 +6,4 @@ pub mod Figures
 pub mod Crops
 pub mod Starred
 pub mod Chains
+pub mod Sizes

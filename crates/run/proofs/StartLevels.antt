@@ -49,7 +49,7 @@ module _ (width height margin : ℕ) (sheet : List ℕ) (row col : ℕ) where
   abbrev x : Point
   x = onCanvas margin row col
 
-  framed-on : frame width height x → framed width height margin row col ≡ true
+  pub framed-on : frame width height x → framed width height margin row col ≡ true
   unfolding framed
   framed-on (r, c, a, b, e) =
       let p = place-up row margin r (ap (λ z. z .row) e) in
@@ -61,7 +61,7 @@ module _ (width height margin : ℕ) (sheet : List ℕ) (row col : ℕ) where
         lt-ltb col (margin + width) (omega arith),
       )
 
-  place-is : framed width height margin row col ≡ true → x ≡ at (pos (row - margin)) (pos (col - margin))
+  pub place-is : framed width height margin row col ≡ true → x ≡ at (pos (row - margin)) (pos (col - margin))
   place-is e = let (l, _, m, _) = framed-bounds width height margin row col e in
       ap₂ at (place-down row margin l) (place-down col margin m)
 

@@ -33,9 +33,9 @@ pub record ErosionStart (area : Area) (A K : PointSet) (start : List ℕ) : Type
 abbrev pub onCanvas : ℕ → ℕ → ℕ → Point
 onCanvas margin row col = at (pos row -ℤ pos margin) (pos col -ℤ pos margin)
 
--- A dilation up to the cap R is worked on a canvas: the frame with a margin of R times the reach r of K on each side. It starts
--- with 1 on A and 65,535 elsewhere and beyond. The partners are K turned about.
-pub record DilationStart (area : Area) (width height R r : ℕ) (A K : PointSet) (start : List ℕ) : Type 0 where
+-- A dilation up to the cap R is worked on a canvas: the frame with a margin of R times the reach r of K on each side. Each point of
+-- A starts with a level of its own, and 65,535 stands elsewhere and beyond. The partners are K turned about.
+pub record OwnStart (area : Area) (width height R r : ℕ) (A K : PointSet) (own : Point → ℕ) (start : List ℕ) : Type 0 where
   pub canvas-width : area .width ≡ width + 2 * (R * r)
   pub canvas-height : area .height ≡ height + 2 * (R * r)
   pub none-beyond : area .beyond ≡ none
@@ -47,6 +47,10 @@ pub record DilationStart (area : Area) (width height R r : ℕ) (A K : PointSet)
   pub inside : A ⊆ frame width height
   pub size : length start ≡ area .height * area .width
   pub on : (row col : ℕ) → row < area .height → col < area .width → A (onCanvas (R * r) row col)
-      → getD start (row * area .width + col) 0 ≡ 1
+      → getD start (row * area .width + col) 0 ≡ own (onCanvas (R * r) row col)
   pub off : (row col : ℕ) → row < area .height → col < area .width → ¬ A (onCanvas (R * r) row col)
       → getD start (row * area .width + col) 0 ≡ none
+
+-- a plain dilation starts with 1 on all of A
+abbrev pub DilationStart : Area → ℕ → ℕ → ℕ → ℕ → PointSet → PointSet → List ℕ → Type 0
+DilationStart area width height R r A K = OwnStart area width height R r A K (λ a. 1)

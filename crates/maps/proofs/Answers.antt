@@ -1,0 +1,151 @@
+-- The start levels are what the scan theorem asks, so the finished levels are at most R + 1 exactly on the foreground dilated by its
+-- sizes; and the sheet packed of these is the answer.
+use Prim.Native.Nat.{ℕ, suc, _+_, _-_, _*_, _≤_, _<_}
+use native.Mathlib.Nat.{le-refl}
+use native.Mathlib.Omega.{arith}
+use mathlib.Core.Path.{_≡_, refl, sym, ap, _∙_}
+use mathlib.Core.Bool.{Bool, true, false, cond}
+use mathlib.Core.List.{List}
+use lib.ListN.{length, getD, replicate}
+use borrow.Author.Tests.{eq-eqb, le-ltb}
+use Rattle.basics.specs.Refusals.{first}
+use Rattle.basics.proofs.RefusalLaws.{accepts}
+use Rattle.grid.specs.Points.{Point}
+use Rattle.grid.specs.Sizes.{dilatedBySizes}
+use Rattle.grid.specs.Figures.{reach}
+use Rattle.grid.proofs.ReachLaws.{figure-in}
+use Rattle.element.proofs.Accepted.{accepted-origin}
+use Rattle.sheet.specs.Sheets.{pixel, rowBytes}
+use Rattle.row.specs.RowRule.{none}
+use Rattle.scan.specs.Starts.{OwnStart, DilationStart, onCanvas}
+use Rattle.scan.proofs.Dilation.{found-frame, found-by-sizes}
+use Rattle.scan.proofs.ScanLaws.{rows-length}
+use Rattle.run.specs.declared.Record.{Record}
+use Rattle.run.specs.Records.{areaWidth, areaHeight, areaOf, due, margin, foreign}
+use Rattle.run.specs.Starting.{startLevels, framed, dilationRefusals}
+use Rattle.run.specs.Kinds.{isHeldAt}
+use Rattle.run.specs.Provisional.{provisionalRefusals}
+use Rattle.run.specs.Series.{dilation}
+use Rattle.run.specs.Pictures.{frameLevel, thresholded}
+use Rattle.run.specs.Demand2.{finished}
+use Rattle.run.proofs.Demand2.{dilation-start}
+use Rattle.run.proofs.LevelLaws.{range-iff}
+use Rattle.run.proofs.PictureAnswers.{view-accepted}
+use Rattle.run.proofs.RecordLaws.{sound, bad-rows}
+use Rattle.run.proofs.Started.{IsStart, is-start}
+use Rattle.run.proofs.StartLevels.{framed-on, place-is}
+use Rattle.run.proofs.Starts.{Judged, judged, dilation-taken, canvas-taken}
+use Rattle.filters.specs.declared.Input.{Input}
+use Rattle.filters.specs.Filters.{IsSheet, foregroundOf, elementOf}
+use Rattle.filters.proofs.SheetAnswers.{tested-sheet}
+use Rattle.maps.specs.Maps.{Buffers, sizeIn, sizeOf, mapRefusals, DilatesByMap}
+use Rattle.maps.specs.Raising.{raised, mapRecord, StartsByMap}
+use Rattle.maps.proofs.SeenLaws.{sizes-small}
+use Rattle.maps.proofs.Refusing.{Taken, taken}
+
+-- a dilation that starts, and its levels
+module _ (input : Input) (sheet bytes : List ℕ) (cap : ℕ) (lent : List ℕ)
+    (z : first (dilationRefusals (input .width) (input .height) sheet (input .side) bytes cap lent) ≡ 0) where
+  abbrev r : Record
+  r = mapRecord input bytes cap
+
+  pub input-judged : Judged (input .width) (input .height) sheet (input .side) bytes
+  input-judged = judged (input .width) (input .height) sheet (input .side) bytes
+      (dilation-taken (input .width) (input .height) sheet (input .side) bytes cap lent z .0)
+
+  pub is-started : IsStart r (startLevels r sheet)
+  is-started = is-start (dilation (input .width) (input .height) sheet (input .side) bytes cap lent (accepts _ z refl))
+
+  abbrev plain : DilationStart (areaOf r) (input .width) (input .height) cap (reach (input .side)) (foregroundOf input sheet)
+      (elementOf input bytes) (startLevels r sheet)
+  plain = dilation-start (input .width) (input .height) sheet (input .side) bytes (input-judged .element) cap
+      (sound r (is-started .taken))
+
+  -- the same with the levels raised by a map
+  module _ (map : List ℕ) {run : Record} {levels : List ℕ} (s : StartsByMap input sheet bytes cap map run levels) where
+    abbrev own : Point → ℕ
+    own a = suc cap - sizeOf input map a
+
+    on : (row col : ℕ) → row < areaHeight r → col < areaWidth r → foregroundOf input sheet (onCanvas (margin r) row col)
+        → getD levels (row * areaWidth r + col) 0 ≡ own (onCanvas (margin r) row col)
+    on row col a b h =
+        let f = framed-on (input .width) (input .height) (margin r) sheet row col
+        (figure-in (input .width) (input .height) (pixel (input .width) sheet) _ h) in
+        s .start .level row col b ∙ rw (f, plain .on row col a b h)
+        (sym (ap own (place-is (input .width) (input .height) (margin r) sheet row col f)))
+
+    off : (row col : ℕ) → row < areaHeight r → col < areaWidth r → ¬ foregroundOf input sheet (onCanvas (margin r) row col)
+        → getD levels (row * areaWidth r + col) 0 ≡ none
+    off row col a b n =
+        s .start .level row col b ∙ rw (plain .off row col a b n) (go (framed (input .width) (input .height) (margin r) row col)
+        (sizeIn (input .width) map (row - margin r) (col - margin r)))
+      where
+        go : (t : Bool) (size : ℕ) → cond t (raised (suc cap) size none) none ≡ none
+        go true size = refl
+        go false size = refl
+
+    own-start : OwnStart (areaOf r) (input .width) (input .height) cap (reach (input .side)) (foregroundOf input sheet)
+        (elementOf input bytes) own levels
+    own-start = record {
+      canvas-width = plain .canvas-width;
+      canvas-height = plain .canvas-height;
+      none-beyond = plain .none-beyond;
+      partners-are = plain .partners-are;
+      row-reach = plain .row-reach;
+      col-reach = plain .col-reach;
+      cap-fits = plain .cap-fits;
+      decide = plain .decide;
+      inside = plain .inside;
+      size = s .start .size ∙ plain .size;
+      on = on;
+      off = off;
+    }
+
+    -- THE SHEET at the cap is the foreground dilated by its sizes, where none is above the cap
+    pub map-sheet : ((a : Point) → foregroundOf input sheet a → sizeOf input map a ≤ cap) → (out : List ℕ)
+        → out ≡ thresholded r (finished r levels) cap
+        → IsSheet (input .width) (input .height)
+        (dilatedBySizes (foregroundOf input sheet) (sizeOf input map) (elementOf input bytes)) out
+    unfolding thresholded
+    map-sheet small out e =
+        tested-sheet (input .width) (input .height) _ (λ row col. isHeldAt r cap (frameLevel r (finished r levels) row col)) out e
+        (λ row col a b.
+        let i = found-by-sizes (own-start .cap-fits) (sizeOf input map)
+        (accepted-origin (input .side) bytes (input-judged .element)) small (found-frame own-start row col a b) in
+        let q = range-iff cap (frameLevel r (finished r levels) row col) in
+        ((λ h. q .0 (i .0 h)), (λ t. i .1 (q .1 t))))
+
+    -- what finishing and packing ask
+    pub map-fresh : (foreign run ≡ false) × ((run .rows ≡ 0) × (length levels ≡ areaHeight run * areaWidth run))
+    map-fresh = rw (s .run) (is-started .taken, (is-started .fresh, s .start .size ∙ is-started .size))
+
+    pub map-length : length (finished r levels) ≡ areaHeight r * areaWidth r
+    map-length = rows-length (areaOf r) 0 (due r) levels ∙ s .start .size ∙ is-started .size
+
+    pub map-packs : (out : List ℕ) → length out ≡ input .height * rowBytes (input .width) → {after : List ℕ} → after ≡ finished run levels
+        → first (provisionalRefusals run after cap out) ≡ 0
+    map-packs out room e =
+        rw (e, s .run, ← bad-rows r (is-started .taken) (due r) refl, le-ltb (due r) 0 (omega arith))
+        (sym (view-accepted r (finished r levels) cap (length out) (input .height * rowBytes (input .width)) (le-refl cap)
+        (rw (eq-eqb (length (finished r levels)) (areaHeight r * areaWidth r) map-length)) room))
+
+-- THE ANSWER
+module _ (input : Input) (sheet bytes : List ℕ) (cap : ℕ) (map : List ℕ) (lent : Buffers)
+    (z : first (mapRefusals input sheet bytes cap map lent) ≡ 0) where
+  abbrev pub fit : Taken input sheet bytes cap map lent
+  fit = taken input sheet bytes cap map lent z
+
+  pub map-answered : {run : Record} {levels scanned : List ℕ} → StartsByMap input sheet bytes cap map run levels
+      → scanned ≡ finished run levels → (after : Buffers) → after .work ≡ replicate (length scanned) 0
+      → after .out ≡ thresholded run scanned cap → DilatesByMap input sheet bytes cap map lent 0 after
+  map-answered {run} {levels} {scanned} s f after w o =
+      accepts after z (
+        w ∙ ap (λ n. replicate n 0) (ap length f ∙ ap (λ r. length (finished r levels)) (s .run) ∙ long),
+        map-sheet input sheet bytes cap (lent .work) (fit .begins) map s (sizes-small input sheet map cap (fit .none-large))
+            (after .out) (o ∙ ap (λ l. thresholded run l cap) f ∙ ap (λ r. thresholded r (finished r levels) cap) (s .run)),
+      )
+    where
+      long : length (finished (mapRecord input bytes cap) levels) ≡ length (lent .work)
+      long = map-length input sheet bytes cap (lent .work) (fit .begins) map s
+          ∙ sym (canvas-taken (input .width) (input .height) cap (input .side) (length (lent .work))
+          (dilation-taken (input .width) (input .height) sheet (input .side) bytes cap (lent .work) (fit .begins) .2) .2)

@@ -1,0 +1,4 @@
+pub mod SeenLaws
+pub mod Refusing
+pub mod RaisingLaws
+pub mod Answers

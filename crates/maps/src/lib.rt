@@ -1,0 +1,188 @@
+// Dilating each foreground point by a size of its own, which a lent map gives: one scan, from levels that start with R + 1 - S(a) at
+// each foreground point a.
+use filters::Input;
+use run::Record;
+ghost use mathlib.Core.Path.{_≡_};
+ghost use mathlib.Core.Bool.{false, cond};
+ghost use Prim.Native.Nat.{_+_, _-_, _*_, _/_, _%_, _<_, _≤_};
+ghost use lib.Dec.{eqb, ltb};
+ghost use lib.ListN.{length, getD, replicate};
+ghost use Rattle.basics.specs.Bounds.{anyAbove};
+ghost use Rattle.basics.specs.Limits.{longestSide};
+ghost use Rattle.basics.specs.Refusals.{first};
+ghost use Rattle.sheet.specs.Sheets.{rowBytes, pixel};
+ghost use Rattle.run.specs.Patches.{Patch, Canvas};
+ghost use Rattle.run.specs.Starting.{dilationRefusals};
+ghost use Rattle.run.specs.Pictures.{thresholded};
+ghost use Rattle.run.specs.Demand2.{finished};
+ghost use Rattle.filters.specs.Filters.{frameSize, sheetSize};
+ghost use Rattle.maps.specs.Maps.{sizeIn, sizesSeen, mapRefusals, DilatesByMap};
+ghost use Rattle.maps.specs.Raising.{raised, Raised, StartsByMap, Fits};
+
+// Whether entry `k` of the map is above the cap, and stands at a foreground point.
+fn is_above(input: Input, sheet: &[u8], map: &[u16], cap: usize, k: usize) -> bool
+    requires { ⌜ Fits input (now sheet) (now map) × (k < length (now map)) ⌝ }
+    ensures { λ r. ⌜ r ≡ ltb cap (getD (sizesSeen input (now (sheet .entry)) (now (map .entry))) k 0) ⌝ }
+{
+    let size = map[k];
+    if size as usize <= cap {
+        return false;
+    }
+    sheet::pixel_at(input.width, sheet, k / input.width, k % input.width) == 1
+}
+
+// Whether one of them is.
+fn any_above(input: Input, sheet: &[u8], map: &[u16], cap: usize) -> bool
+    requires { ⌜ Fits input (now sheet) (now map) ⌝ }
+    ensures { λ r. ⌜ r ≡ anyAbove cap (sizesSeen input (now (sheet .entry)) (now (map .entry))) ⌝ }
+{
+    let mut k = 0;
+    while k < map.len() {
+        if is_above(input, sheet, map, cap, k) {
+            return true;
+        }
+        k += 1;
+    }
+    false
+}
+
+// Refusals 2 to 11, and 8 for a size above the cap, or 0.
+fn map_refusal(
+    input: Input,
+    sheet: &[u8],
+    bytes: &[u8],
+    cap: usize,
+    map: &[u16],
+    work: &[u16],
+    out: &[u8],
+) -> u32
+    ensures { λ r. ⌜ r ≡ first (mapRefusals input (now (sheet .entry)) (now (bytes .entry)) cap (now (map .entry))
+        (record { work = now (work .entry); out = now (out .entry) })) ⌝ }
+{
+    let width = input.width;
+    let height = input.height;
+    let refusal =
+        run::starting::dilation_refusal(width, height, sheet, input.side, bytes, cap, work);
+    if refusal != 0 {
+        return refusal;
+    }
+    if map.len() != height * width {
+        return 10;
+    }
+    if out.len() != height * sheet::row_bytes(width) {
+        return 11;
+    }
+    if any_above(input, sheet, map, cap) {
+        return 8;
+    }
+    0
+}
+
+// The level that a point with a size starts with, where a dilation's would be 1.
+fn raised_level(level: u16, size: u16, most: u16) -> u16
+    ensures { λ r. ⌜ r ≡ raised most size level ⌝ }
+{
+    if level != 1 {
+        return level;
+    }
+    if most < size {
+        return 0;
+    }
+    most - size
+}
+
+// Raises the `n` levels from `at` on by the sizes from `from` on.
+fn raise_row(levels: &mut [u16], at: usize, n: usize, map: &[u16], from: usize, most: u16)
+    requires { ⌜ (at + n ≤ length (now levels)) × (from + n ≤ length (now map)) ⌝ }
+    ensures { λ _. ⌜ Patch at n
+        (λ i. raised most (getD (now (map .entry)) (from + i) 0) (getD (now (levels .entry)) (at + i) 0))
+        (now (levels .entry)) (now (levels .exit)) ⌝ }
+{
+    let mut i = 0;
+    while i < n {
+        let level = raised_level(levels[at + i], map[from + i], most);
+        levels[at + i] = level;
+        i += 1;
+    }
+}
+
+// Raises the levels of the frame by the map.
+fn raise_frame(
+    levels: &mut [u16],
+    width: usize,
+    height: usize,
+    margin: usize,
+    map: &[u16],
+    most: u16,
+)
+    requires { ⌜ Canvas width height margin (now levels) × (length (now map) ≡ height * width) ⌝ }
+    ensures { λ _. ⌜ Raised width margin height most (now (map .entry)) (now (levels .entry)) (now (levels .exit)) ⌝ }
+{
+    let side = width + (margin + margin);
+    let mut row = 0;
+    while row < height {
+        raise_row(
+            levels,
+            (row + margin) * side + margin,
+            width,
+            map,
+            row * width,
+            most,
+        );
+        row += 1;
+    }
+}
+
+// Starts the dilation, its levels raised by the map.
+fn start_by_map(
+    input: Input,
+    sheet: &[u8],
+    bytes: &[u8],
+    cap: usize,
+    map: &[u16],
+    work: &mut [u16],
+) -> Record
+    requires { ⌜ (first (dilationRefusals (input .width) (input .height) (now sheet) (input .side) (now bytes) cap (now work)) ≡ 0) ×
+        (length (now map) ≡ frameSize input) ⌝ }
+    ensures { λ r. ⌜ StartsByMap input (now (sheet .entry)) (now (bytes .entry)) cap (now (map .entry)) r (now (work .exit)) ⌝ }
+{
+    let dilation = run::starting::start_dilation(
+        input.width,
+        input.height,
+        sheet,
+        input.side,
+        bytes,
+        cap,
+        work,
+    );
+    let margin = run::records::margin_of(cap, input.side);
+    let most = cap as u16 + 1;
+    raise_frame(work, input.width, input.height, margin, map, most);
+    dilation.run
+}
+
+// Public: fills `out` with the sheet in which each foreground point is dilated by its size in the map; the work buffer becomes all
+// zero. Refusals 2 to 11, and 8 for a size above the cap.
+pub fn dilate_by_map(
+    input: Input,
+    sheet: &[u8],
+    bytes: &[u8],
+    cap: usize,
+    map: &[u16],
+    work: &mut [u16],
+    out: &mut [u8],
+) -> u32
+    ensures { λ r. ⌜ DilatesByMap input (now (sheet .entry)) (now (bytes .entry)) cap (now (map .entry))
+        (record { work = now (work .entry); out = now (out .entry) }) r
+        (record { work = now (work .exit); out = now (out .exit) }) ⌝ }
+{
+    let refusal = map_refusal(input, sheet, bytes, cap, map, work, out);
+    if refusal != 0 {
+        return refusal;
+    }
+    let run = start_by_map(input, sheet, bytes, cap, map, work);
+    filters::back::finish(run, work);
+    run::pictures::pack_held(run, work, cap, out);
+    filters::back::clear(work);
+    0
+}
