@@ -21,8 +21,9 @@ use Rattle.scan.specs.Starts.{OwnStart, DilationStart, onCanvas}
 use Rattle.scan.proofs.Dilation.{found-frame, found-by-sizes}
 use Rattle.scan.proofs.ScanLaws.{rows-length}
 use Rattle.run.specs.declared.Record.{Record}
-use Rattle.run.specs.Records.{areaWidth, areaHeight, areaOf, due, margin, foreign}
-use Rattle.run.specs.Starting.{startLevels, framed, dilationRefusals}
+use Rattle.run.specs.Records.{areaWidth, areaHeight, areaOf, due, margin, recordBad}
+use Rattle.run.specs.Starting.{startLevels, begun, framed, dilationRefusals, StartsDilation}
+use Rattle.run.specs.Patches.{Canvas}
 use Rattle.run.specs.Kinds.{isHeldAt}
 use Rattle.run.specs.Provisional.{provisionalRefusals}
 use Rattle.run.specs.Series.{dilation}
@@ -34,12 +35,12 @@ use Rattle.run.proofs.PictureAnswers.{view-accepted}
 use Rattle.run.proofs.RecordLaws.{sound, bad-rows}
 use Rattle.run.proofs.Started.{IsStart, is-start}
 use Rattle.run.proofs.StartLevels.{framed-on, place-is}
-use Rattle.run.proofs.Starts.{Judged, judged, dilation-taken, canvas-taken}
+use Rattle.run.proofs.Starts.{Judged, judged, dilation-taken, canvas-taken, canvas-area}
 use Rattle.filters.specs.declared.Input.{Input}
 use Rattle.filters.specs.Filters.{IsSheet, foregroundOf, elementOf}
 use Rattle.filters.proofs.SheetAnswers.{tested-sheet}
 use Rattle.maps.specs.Maps.{Buffers, sizeIn, sizeOf, mapRefusals, DilatesByMap}
-use Rattle.maps.specs.Raising.{raised, mapRecord, StartsByMap}
+use Rattle.maps.specs.Raising.{raised, Raised, mapRecord, StartsByMap, Finishes}
 use Rattle.maps.proofs.SeenLaws.{sizes-small}
 use Rattle.maps.proofs.Refusing.{Taken, taken}
 
@@ -60,6 +61,23 @@ module _ (input : Input) (sheet bytes : List ℕ) (cap : ℕ) (lent : List ℕ)
       (elementOf input bytes) (startLevels r sheet)
   plain = dilation-start (input .width) (input .height) sheet (input .side) bytes (input-judged .element) cap
       (sound r (is-started .taken))
+
+  -- what the start answers, and its levels raised
+  module _ {number : ℕ} {run : Record} {levels : List ℕ}
+      (a : StartsDilation (input .width) (input .height) sheet (input .side) bytes cap lent number (run, levels))
+      {m : ℕ} (is : m ≡ margin r) where
+    begun-is : (run, levels) ≡ begun r sheet
+    begun-is = a .accepted (a .refusal ∙ z)
+
+    pub start-canvas : Canvas (input .width) (input .height) m levels
+    start-canvas =
+        let c = canvas-area (input .width) (input .height) cap (input .side) lent
+        (dilation-taken (input .width) (input .height) sheet (input .side) bytes cap lent z .2) in
+        rw (is, ap (λ t. t .1) begun-is) (record { wide = c .wide; high = c .high; room = is-started .size })
+
+    pub start-raised : (map : List ℕ) {most : ℕ} {after : List ℕ} → most ≡ suc cap
+        → Raised (input .width) m (input .height) most map levels after → StartsByMap input sheet bytes cap map run after
+    start-raised map e raised = record { run = ap (λ t. t .0) begun-is; start = rw (is, e, ap (λ t. t .1) begun-is) at raised }
 
   -- the same with the levels raised by a map
   module _ (map : List ℕ) {run : Record} {levels : List ℕ} (s : StartsByMap input sheet bytes cap map run levels) where
@@ -115,19 +133,26 @@ module _ (input : Input) (sheet bytes : List ℕ) (cap : ℕ) (lent : List ℕ)
         let q = range-iff cap (frameLevel r (finished r levels) row col) in
         ((λ h. q .0 (i .0 h)), (λ t. i .1 (q .1 t))))
 
-    -- what finishing and packing ask
-    pub map-fresh : (foreign run ≡ false) × ((run .rows ≡ 0) × (length levels ≡ areaHeight run * areaWidth run))
-    map-fresh = rw (s .run) (is-started .taken, (is-started .fresh, s .start .size ∙ is-started .size))
+    -- such a run may be finished
+    pub map-finishes : (out : List ℕ) → length out ≡ input .height * rowBytes (input .width) → Finishes run levels out
+    map-finishes out room = rw (s .run) (record {
+      taken = is-started .taken;
+      fresh = is-started .fresh;
+      size = s .start .size ∙ is-started .size;
+      cap-held = le-refl cap;
+      room = room;
+    })
 
-    pub map-length : length (finished r levels) ≡ areaHeight r * areaWidth r
-    map-length = rows-length (areaOf r) 0 (due r) levels ∙ s .start .size ∙ is-started .size
-
-    pub map-packs : (out : List ℕ) → length out ≡ input .height * rowBytes (input .width) → {after : List ℕ} → after ≡ finished run levels
-        → first (provisionalRefusals run after cap out) ≡ 0
-    map-packs out room e =
-        rw (e, s .run, ← bad-rows r (is-started .taken) (due r) refl, le-ltb (due r) 0 (omega arith))
-        (sym (view-accepted r (finished r levels) cap (length out) (input .height * rowBytes (input .width)) (le-refl cap)
-        (rw (eq-eqb (length (finished r levels)) (areaHeight r * areaWidth r) map-length)) room))
+-- packing what a finished run holds at its cap
+pub pack-ready : {r : Record} {levels out scanned : List ℕ} → Finishes r levels out → scanned ≡ finished r levels
+    → first (provisionalRefusals r scanned (r .cap) out) ≡ 0
+pack-ready {r} {levels} {out} given e =
+    let long : length (finished r levels) ≡ areaHeight r * areaWidth r = rows-length (areaOf r) 0 (due r) levels ∙ given .size in
+    let sound : recordBad r ≡ false = sym (bad-rows r (given .taken) (due r) refl)
+    ∙ le-ltb (due r) (r .rows) (let f = given .fresh in omega arith) in
+    rw (e, sound)
+    (sym (view-accepted r (finished r levels) (r .cap) (length out) (r .height * rowBytes (r .width)) (given .cap-held)
+    (rw (eq-eqb (length (finished r levels)) (areaHeight r * areaWidth r) long)) (given .room)))
 
 -- THE ANSWER
 module _ (input : Input) (sheet bytes : List ℕ) (cap : ℕ) (map : List ℕ) (lent : Buffers)
@@ -135,17 +160,17 @@ module _ (input : Input) (sheet bytes : List ℕ) (cap : ℕ) (map : List ℕ) (
   abbrev pub fit : Taken input sheet bytes cap map lent
   fit = taken input sheet bytes cap map lent z
 
-  pub map-answered : {run : Record} {levels scanned : List ℕ} → StartsByMap input sheet bytes cap map run levels
-      → scanned ≡ finished run levels → (after : Buffers) → after .work ≡ replicate (length scanned) 0
-      → after .out ≡ thresholded run scanned cap → DilatesByMap input sheet bytes cap map lent 0 after
-  map-answered {run} {levels} {scanned} s f after w o =
+  pub map-answered : {run : Record} {levels : List ℕ} → StartsByMap input sheet bytes cap map run levels
+      → (after : Buffers) → after .work ≡ replicate (length levels) 0
+      → after .out ≡ thresholded run (finished run levels) (run .cap) → DilatesByMap input sheet bytes cap map lent 0 after
+  map-answered {run} {levels} s after w o =
       accepts after z (
-        w ∙ ap (λ n. replicate n 0) (ap length f ∙ ap (λ r. length (finished r levels)) (s .run) ∙ long),
+        w ∙ ap (λ n. replicate n 0) long,
         map-sheet input sheet bytes cap (lent .work) (fit .begins) map s (sizes-small input sheet map cap (fit .none-large))
-            (after .out) (o ∙ ap (λ l. thresholded run l cap) f ∙ ap (λ r. thresholded r (finished r levels) cap) (s .run)),
+            (after .out) (o ∙ ap (λ r. thresholded r (finished r levels) (r .cap)) (s .run)),
       )
     where
-      long : length (finished (mapRecord input bytes cap) levels) ≡ length (lent .work)
-      long = map-length input sheet bytes cap (lent .work) (fit .begins) map s
+      long : length levels ≡ length (lent .work)
+      long = s .start .size ∙ is-started input sheet bytes cap (lent .work) (fit .begins) .size
           ∙ sym (canvas-taken (input .width) (input .height) cap (input .side) (length (lent .work))
           (dilation-taken (input .width) (input .height) sheet (input .side) bytes cap (lent .work) (fit .begins) .2) .2)

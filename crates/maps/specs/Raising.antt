@@ -1,14 +1,15 @@
 -- How the levels start: as a dilation's, with R + 1 - S(a) in the place of the 1 at each foreground point a.
 use Prim.Native.Nat.{ℕ, suc, _+_, _-_, _*_, _≤_, _<_}
 use mathlib.Core.Path.{_≡_}
-use mathlib.Core.Bool.{cond}
+use mathlib.Core.Bool.{false, cond}
 use mathlib.Core.List.{List}
 use lib.Dec.{eqb}
 use lib.ListN.{length, getD}
 use Rattle.basics.specs.Limits.{longestSide}
+use Rattle.sheet.specs.Sheets.{rowBytes}
 use Rattle.run.specs.declared.Record.{Record}
-use Rattle.run.specs.Kinds.{dilating}
-use Rattle.run.specs.Records.{canvasSide, margin}
+use Rattle.run.specs.Kinds.{dilating, sizeLimit}
+use Rattle.run.specs.Records.{canvasSide, margin, areaWidth, areaHeight, foreign}
 use Rattle.run.specs.Starting.{framed, startRecord, startLevels}
 use Rattle.filters.specs.declared.Input.{Input}
 use Rattle.filters.specs.Filters.{frameSize, sheetSize}
@@ -40,3 +41,11 @@ pub record Fits (input : Input) (sheet map : List ℕ) : Type 0 where
   pub high : input .height ≤ longestSide
   pub sheet-size : length sheet ≡ sheetSize input
   pub map-size : length map ≡ frameSize input
+
+-- a run that a start gave, with room for its levels and for the sheet that it holds at its cap
+pub record Finishes (r : Record) (levels out : List ℕ) : Type 0 where
+  pub taken : foreign r ≡ false
+  pub fresh : r .rows ≡ 0
+  pub size : length levels ≡ areaHeight r * areaWidth r
+  pub cap-held : r .cap ≤ sizeLimit r
+  pub room : length out ≡ r .height * rowBytes (r .width)

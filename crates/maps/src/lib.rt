@@ -17,7 +17,7 @@ ghost use Rattle.run.specs.Pictures.{thresholded};
 ghost use Rattle.run.specs.Demand2.{finished};
 ghost use Rattle.filters.specs.Filters.{frameSize, sheetSize};
 ghost use Rattle.maps.specs.Maps.{sizeIn, sizesSeen, mapRefusals, DilatesByMap};
-ghost use Rattle.maps.specs.Raising.{raised, Raised, StartsByMap, Fits};
+ghost use Rattle.maps.specs.Raising.{raised, Raised, StartsByMap, Fits, Finishes};
 
 // Whether entry `k` of the map is above the cap, and stands at a foreground point.
 fn is_above(input: Input, sheet: &[u8], map: &[u16], cap: usize, k: usize) -> bool
@@ -161,6 +161,17 @@ fn start_by_map(
     dilation.run
 }
 
+// Works all rows of a started run, and fills `out` with the sheet that it holds at its cap; the work buffer becomes all zero.
+fn finish_sheet(run: Record, work: &mut [u16], out: &mut [u8])
+    requires { ⌜ Finishes run (now work) (now out) ⌝ }
+    ensures { λ _. ⌜ (now (work .exit) ≡ replicate (length (now (work .entry))) 0) ×
+        (now (out .exit) ≡ thresholded run (finished run (now (work .entry))) (run .cap)) ⌝ }
+{
+    filters::back::finish(run, work);
+    run::pictures::pack_held(run, work, run.cap, out);
+    filters::back::clear(work);
+}
+
 // Public: fills `out` with the sheet in which each foreground point is dilated by its size in the map; the work buffer becomes all
 // zero. Refusals 2 to 11, and 8 for a size above the cap.
 pub fn dilate_by_map(
@@ -181,8 +192,6 @@ pub fn dilate_by_map(
         return refusal;
     }
     let run = start_by_map(input, sheet, bytes, cap, map, work);
-    filters::back::finish(run, work);
-    run::pictures::pack_held(run, work, cap, out);
-    filters::back::clear(work);
+    finish_sheet(run, work, out);
     0
 }
