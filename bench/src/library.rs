@@ -57,6 +57,19 @@ pub fn opening_levels(sheet: &Sheet, element: &Element, work: &mut [Vec<u16>; 2]
     accepted(lent::opening_levels(sheet.given(element), a, b, out));
 }
 
+/// Dilates each foreground point by the size that the map gives at it.
+pub fn dilate_by_map(
+    sheet: &Sheet,
+    element: &Element,
+    cap: usize,
+    map: &[u16],
+    work: &mut [u16],
+    out: &mut [u8],
+) {
+    let given = sheet.given(element);
+    accepted(lent::dilate_by_map(given, cap as u64, map, work, out));
+}
+
 pub fn read_pbm(file: &[u8], out: &mut [u8]) {
     accepted(lent::read_pbm(file, out));
 }

@@ -103,7 +103,7 @@ fn report(title: String, timed: Vec<Timed>) -> Row {
 /// All medians again, one line for each work.
 fn print_table(rows: &[Row]) {
     const COLUMNS: [&str; 5] = ["library", "plain C", "tuned C", "OpenCV", "leptonica"];
-    print!("{:<62}", "ns/pixel");
+    print!("{:<69}", "ns/pixel");
     for column in COLUMNS {
         print!(" {column:>9}");
     }
@@ -117,7 +117,7 @@ fn print_table(rows: &[Row]) {
             entry.map(|entry| entry.median)
         };
         let shown = |number: Option<f64>| number.map_or("-".to_string(), |n| format!("{n:.2}"));
-        print!("{:<62}", row.title);
+        print!("{:<69}", row.title);
         for column in COLUMNS {
             print!(" {:>9}", shown(median(column)));
         }
@@ -154,6 +154,11 @@ fn erosion_by(which: Way, sheet: &Sheet, element: &Element, levels: &mut [u16]) 
 fn dilation_by(which: Way, sheet: &Sheet, element: &Element, cap: usize, levels: &mut [u16]) {
     let margin = cap * element.reach();
     unpack(sheet, margin, 1, u16::MAX, levels);
+    scan_within(which, sheet, margin, element, levels);
+}
+
+/// Works all rows of a dilation on a canvas with this margin.
+fn scan_within(which: Way, sheet: &Sheet, margin: usize, element: &Element, levels: &mut [u16]) {
     let (width, height) = (sheet.width + 2 * margin, sheet.height + 2 * margin);
     raw::scan(which, levels, width, height, element, true);
 }
@@ -209,6 +214,82 @@ fn opening_levels_by(
             if *from <= size + 1 {
                 *to = size + 1;
             }
+        }
+    }
+}
+
+/// Sets levels up by a map, without a branch for each pixel: on the foreground what `level_of` makes of the size there.
+fn unpack_by_map(
+    sheet: &Sheet,
+    margin: usize,
+    map: &[u16],
+    level_of: impl Fn(u16) -> u16,
+    levels: &mut [u16],
+) {
+    if margin > 0 {
+        levels.fill(u16::MAX);
+    }
+    let width = sheet.width + 2 * margin;
+    let rows = sheet.bytes.chunks(sheet.width.div_ceil(8));
+    for (y, (row, sizes)) in rows.zip(map.chunks(sheet.width)).enumerate() {
+        let levels = &mut levels[(y + margin) * width + margin..][..sheet.width];
+        for ((levels, sizes), byte) in levels.chunks_mut(8).zip(sizes.chunks(8)).zip(row) {
+            for (place, (level, size)) in levels.iter_mut().zip(sizes).enumerate() {
+                let bit = u16::from(*byte) >> (7 - place) & 1;
+                *level = level_of(*size) | bit.wrapping_sub(1);
+            }
+        }
+    }
+}
+
+/// What dilating by a map in C works in: levels, and the sheet of one size.
+type MapRoom = (Vec<u16>, Vec<u8>);
+
+/// The type of [`by_map_in_one_scan`] and [`by_map_size_by_size`].
+type ByMap = fn(Way, &Sheet, &Element, &[u16], &mut MapRoom, &mut [u8]);
+
+/// Dilates by a map with one scan in C, as the library does: a point of size n starts at the level R + 1 - n, and what
+/// ends at most at R + 1 is held.
+fn by_map_in_one_scan(
+    which: Way,
+    sheet: &Sheet,
+    element: &Element,
+    map: &[u16],
+    room: &mut MapRoom,
+    out: &mut [u8],
+) {
+    let most = u16::try_from(SIZE + 1).expect("a small size");
+    let margin = SIZE * element.reach();
+    let (levels, _) = room;
+    unpack_by_map(sheet, margin, map, |size| most - size, levels);
+    scan_within(which, sheet, margin, element, levels);
+    raw::pack(which, levels, sheet.within(margin), 0, most, out);
+}
+
+/// Dilates by a map with scans in C, as one would without such a call: the points of each size are dilated by it, on a
+/// canvas of that size, and the sheets joined.
+fn by_map_size_by_size(
+    which: Way,
+    sheet: &Sheet,
+    element: &Element,
+    map: &[u16],
+    room: &mut MapRoom,
+    out: &mut [u8],
+) {
+    let (levels, part) = room;
+    out.fill(0);
+    for size in 0..=u16::try_from(SIZE).expect("a small size") {
+        let margin = usize::from(size) * element.reach();
+        let levels = &mut levels[..sheet.within(margin).points()];
+        let level_of = |of_point| if of_point == size { 1 } else { u16::MAX };
+        unpack_by_map(sheet, margin, map, level_of, levels);
+        // Size 0 leaves its points as they are.
+        if size > 0 {
+            scan_within(which, sheet, margin, element, levels);
+        }
+        raw::pack(which, levels, sheet.within(margin), 0, size + 1, part);
+        for (to, from) in out.iter_mut().zip(part.iter()) {
+            *to |= from;
         }
     }
 }
@@ -346,6 +427,44 @@ fn bench_filter(options: &Options, element: &Element, content: Content, closing:
     let title = format!(
         "{} by {SIZE}, {}, {} {side} by {side}",
         if closing { "closing" } else { "opening" },
+        element.name,
+        content.name()
+    );
+    let row = report(title, time(side * side, options.repeats, runners));
+    compare("plain C", &out[0], &out[1]);
+    compare("tuned C", &out[0], &out[2]);
+    row
+}
+
+/// The library's call is the same in both rows; the C works in one scan, or size by size.
+fn bench_by_map(options: &Options, element: &Element, content: Content, size_by_size: bool) -> Row {
+    let side = frame_side(options, element);
+    let sheet = content.sheet(side, side);
+    let map = sheet.growing_sizes(SIZE);
+    let (points, bytes) = (options.side * options.side, sheet.bytes.len());
+    let mut work = vec![0; points];
+    let mut room_plain = (vec![0; points], vec![0; bytes]);
+    let mut room_tuned = (vec![0; points], vec![0; bytes]);
+    let mut out = [vec![0; bytes], vec![0; bytes], vec![0; bytes]];
+    let [ours, plain, tuned] = &mut out;
+    let (call, how): (ByMap, _) = if size_by_size {
+        (by_map_size_by_size, "size by size")
+    } else {
+        (by_map_in_one_scan, "in one scan")
+    };
+    let runners = vec![
+        runner("library", || {
+            library::dilate_by_map(&sheet, element, SIZE, &map, &mut work, ours);
+        }),
+        runner("plain C", || {
+            call(Way::Plain, &sheet, element, &map, &mut room_plain, plain);
+        }),
+        runner("tuned C", || {
+            call(Way::Tuned, &sheet, element, &map, &mut room_tuned, tuned);
+        }),
+    ];
+    let title = format!(
+        "dilating by a map, C {how}, {}, {} {side} by {side}",
         element.name,
         content.name()
     );
@@ -551,6 +670,12 @@ fn main() {
     for element in [&cross, &box_shaped] {
         for closing in [false, true] {
             rows.push(bench_filter(&options, element, Content::TextLike, closing));
+        }
+    }
+    for element in [&cross, &box_shaped] {
+        for size_by_size in [false, true] {
+            let row = bench_by_map(&options, element, Content::TextLike, size_by_size);
+            rows.push(row);
         }
     }
     rows.push(bench_opening_levels(&options, &cross));

@@ -23,6 +23,14 @@ impl Sheet {
         }
     }
 
+    /// A map of sizes that grow with the row, as perspective asks, from 0 at the top to the cap at the bottom.
+    pub fn growing_sizes(&self, cap: usize) -> Vec<u16> {
+        let size_of = |row| u16::try_from(row * (cap + 1) / self.height).expect("a small cap");
+        (0..self.height)
+            .flat_map(|row| vec![size_of(row); self.width])
+            .collect()
+    }
+
     /// The frame in levels that have a margin around it.
     pub fn within(&self, margin: usize) -> Frame {
         Frame {

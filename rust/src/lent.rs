@@ -331,6 +331,38 @@ pub fn closing_levels(
     filter(c::wt_closing_levels, given, cap, work_a, work_b, out)
 }
 
+/// Dilates each foreground point by a size of its own, up to a cap. The map has a size for each point of the frame; what
+/// stands in it at background points doesn't matter. The work buffer has as many levels as the canvas has points.
+///
+/// # Errors
+/// 2 to 11, the first that applies; after all of these, 8 for a size above the cap at a foreground point.
+pub fn dilate_by_map(
+    given: Given,
+    cap: u64,
+    map: &[u16],
+    work: &mut [u16],
+    out: &mut [u8],
+) -> Result<(), Refusal> {
+    Refusal::check(unsafe {
+        c::wt_dilate_by_map(
+            given.width,
+            given.height,
+            given.sheet.as_ptr(),
+            given.sheet.len(),
+            given.side,
+            given.cells.as_ptr(),
+            given.cells.len(),
+            cap,
+            map.as_ptr(),
+            map.len(),
+            work.as_mut_ptr(),
+            work.len(),
+            out.as_mut_ptr(),
+            out.len(),
+        )
+    })
+}
+
 /// Gives the cells of the element turned about its origin.
 ///
 /// # Errors

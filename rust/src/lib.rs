@@ -4,7 +4,7 @@
 //! background, but for [`Run::start_cropped`], where it is foreground. An [`Element`] is a small set around its origin.
 //! A [`Run`] finds, at every point of the frame, up to which size an erosion keeps it or from which size a dilation
 //! reaches it; it can be worked in slices of rows, and gives no picture before all its rows are done.
-//! [`Run::provisional`] is a look at one under way.
+//! [`Run::provisional`] is a look at one under way. [`Sheet::dilate_by_map`] dilates each point by a size of its own.
 //!
 //! ```
 //! use walugtirim::{Element, Run, Sheet};
@@ -196,6 +196,42 @@ impl Sheet {
             &mut levels,
         )?;
         Ok(levels)
+    }
+
+    /// Dilates each foreground point by a size of its own, up to a cap of 0 to 2047: gives the union, over these points,
+    /// of the element added to itself so many times and moved to the point. In a picture of a road, sizes that grow
+    /// towards the lower edge follow perspective; `examples/road.rs` shows that.
+    ///
+    /// The map has a size for each point of the frame, row by row; what stands in it at background points doesn't
+    /// matter.
+    ///
+    /// ```
+    /// use walugtirim::{Element, Sheet};
+    ///
+    /// # fn main() -> Result<(), walugtirim::Refusal> {
+    /// // The row 0 1 0 0 0 1 0 with the sizes 0 and 1, and the origin with its right neighbour.
+    /// let sheet = Sheet::new(7, 1, vec![0x44]);
+    /// let pair = Element::new(3, vec![0, 0, 0, 0, 1, 1, 0, 0, 0]);
+    /// let map = [9, 0, 9, 9, 9, 1, 9];
+    /// assert_eq!(sheet.dilate_by_map(&pair, 1, &map)?.bytes, [0x46]);
+    /// # Ok(())
+    /// # }
+    /// ```
+    ///
+    /// # Errors
+    /// 2 to 10, the lowest that applies, where 10 is a map of another length; after all of these, 8 for a size above the
+    /// cap at a foreground point.
+    pub fn dilate_by_map(
+        &self,
+        element: &Element,
+        cap: u64,
+        map: &[u16],
+    ) -> Result<Sheet, Refusal> {
+        let area = room::canvas_points(self.width, self.height, element.side, cap);
+        let mut work = vec![0; area];
+        let mut dilated = Sheet::background(self.width, self.height);
+        lent::dilate_by_map(self.given(element), cap, map, &mut work, &mut dilated.bytes)?;
+        Ok(dilated)
     }
 
     /// Opens or closes, with work buffers of so many levels.

@@ -30,10 +30,13 @@ const SENTENCES: [(u32, &str); 17] = [
     (7, "the element's centre is its only point"),
     (
         8,
-        "a size or cap lies outside its range, or a level is above the maximum",
+        "a size, a cap or a size of a map lies outside its range, or a level is above the maximum",
     ),
     (9, "a canvas side exceeds 4096"),
-    (10, "the length of the levels or of a work buffer is wrong"),
+    (
+        10,
+        "the length of the levels, of a map or of a work buffer is wrong",
+    ),
     (
         11,
         "the length of an output is wrong, or there is too little room for what is written",

@@ -1,6 +1,7 @@
 //! The small sheets of document 01, worked by hand, through the safe functions; and that no argument, however wrong,
 //! does more than be refused.
 
+use walugtirim::lent::{self, Given};
 use walugtirim::{Element, Look, Refusal, Run, Sheet, MORE_THAN_CAP, RECORD_WORDS};
 
 /// A sheet of one row, `1` being foreground.
@@ -234,6 +235,73 @@ fn dilations_seen_in_the_frame_do_not_fold() {
     assert_eq!(dilated(&column, 2), Sheet::new(1, 2, vec![0x80, 0x80]));
 }
 
+/// A map of a row: its second and sixth point have sizes, and elsewhere it holds what no cap allows.
+const TWO_SIZES: [u16; 7] = [65535, 0, 65535, 65535, 65535, 1, 65535];
+
+#[test]
+fn each_point_has_its_own_size() {
+    let sheet = row("0100010");
+    let by_map = |cap, map: &[u16]| sheet.dilate_by_map(&t(), cap, map).unwrap();
+    assert_eq!(by_map(1, &TWO_SIZES), row("0100011"));
+    // A larger cap makes a larger canvas, and no other sheet.
+    assert_eq!(by_map(5, &TWO_SIZES), row("0100011"));
+    assert_eq!(by_map(4, &[0, 4, 0, 0, 0, 0, 0]), row("0111110"));
+    // The lower point is met by way of beyond the frame, in two steps.
+    let element = Element::new(3, vec![0, 0, 0, 1, 1, 0, 0, 0, 1]);
+    let column = Sheet::new(1, 2, vec![0x80, 0]);
+    for (size, bytes) in [(0, [0x80, 0]), (1, [0x80, 0]), (2, [0x80, 0x80])] {
+        let dilated = column.dilate_by_map(&element, 2, &[size, 0]).unwrap();
+        assert_eq!(dilated.bytes, bytes);
+    }
+}
+
+#[test]
+fn a_map_of_one_size_is_a_plain_dilation() {
+    let sheet = Sheet::new(6, 5, vec![0, 0x40, 0, 0, 0x04]);
+    for element in [Element::cross(), Element::square(), t()] {
+        let mut run = Run::start_dilation(&sheet, &element, 3).unwrap();
+        run.finish().unwrap();
+        for size in 0..=3 {
+            let dilated = sheet.dilate_by_map(&element, 3, &[size; 30]);
+            assert_eq!(dilated, run.threshold(u64::from(size)));
+        }
+    }
+}
+
+#[test]
+fn a_size_above_the_cap_is_judged_last() {
+    let (sheet, element) = (row("0100010"), t());
+    let given = Given {
+        width: sheet.width,
+        height: sheet.height,
+        sheet: &sheet.bytes,
+        side: element.side,
+        cells: &element.bytes,
+    };
+    // The canvas of the cap 1 is 9 by 3.
+    let mut work = [7; 27];
+    let mut out = [0xAA; 2];
+    let mut above = TWO_SIZES;
+    above[5] = 2;
+    for (map, levels, bytes, refusal) in [
+        (&above[..], 27, 1, 8),
+        (&above[..], 27, 2, 11),
+        (&above[..], 26, 2, 10),
+        (&above[..6], 27, 2, 10),
+        (&TWO_SIZES[..6], 27, 1, 10),
+    ] {
+        let (work, out) = (&mut work[..levels], &mut out[..bytes]);
+        let answer = lent::dilate_by_map(given, 1, map, work, out);
+        assert_eq!(number(answer), refusal);
+    }
+    assert_eq!((work, out), ([7; 27], [0xAA; 2]));
+    lent::dilate_by_map(given, 1, &TWO_SIZES, &mut work, &mut out[..1]).unwrap();
+    assert_eq!((work, out), ([0; 27], [0x46, 0xAA]));
+    assert_eq!(number(sheet.dilate_by_map(&element, 1, &above)), 8);
+    assert_eq!(sheet.dilate_by_map(&element, 2, &above), Ok(row("0100011")));
+    assert_eq!(number(sheet.dilate_by_map(&element, 1, &above[..6])), 10);
+}
+
 #[test]
 fn files_go_there_and_back() {
     let sheet = Sheet::new(9, 2, vec![0xAA, 0xFF, 0x55, 0x7F]);
@@ -262,18 +330,22 @@ fn no_argument_is_too_wrong() {
         assert_eq!(number(Run::start_dilation(&sheet, &t(), u64::MAX)), 2);
         assert_eq!(number(Run::start_cropped(&sheet, &t(), u64::MAX)), 2);
         assert_eq!(number(sheet.close(&t(), 1)), 2);
+        assert_eq!(number(sheet.dilate_by_map(&t(), u64::MAX, &[])), 2);
         assert_eq!(number(sheet.write_pbm()), 2);
         assert!(!sheet.pixel(0, 0));
         let element = Element::new(side, vec![1; 9]);
         assert_eq!(number(element.reflect()), 4);
         assert_eq!(number(row("1").open(&element, 1)), 4);
         assert_eq!(number(row("1").close(&element, side)), 4);
+        assert_eq!(number(row("1").dilate_by_map(&element, side, &[])), 4);
     }
     assert_eq!(number(row("1").open(&t(), 4097)), 8);
     assert_eq!(number(row("1").close(&t(), u64::MAX)), 8);
     assert_eq!(number(row("1").closing_levels(&t(), 2048)), 8);
+    assert_eq!(number(row("1").dilate_by_map(&t(), 2048, &[])), 8);
     // A margin of 2,047 on both sides leaves room for a frame of at most 2.
     assert_eq!(number(row("111").close(&t(), 2047)), 9);
+    assert_eq!(number(row("111").dilate_by_map(&t(), 2047, &[])), 9);
     assert_eq!(number(Run::start_cropped(&row("111"), &t(), 2047)), 9);
     assert_eq!(number(Run::start_cropped(&row("111"), &t(), 2048)), 8);
     let mut foreign = Run::from_parts([u64::MAX; RECORD_WORDS], vec![]);

@@ -31,16 +31,21 @@ pub const OPENING_LEVELS: usize = 13;
 
 pub const CLOSING_LEVELS: usize = 14;
 
-pub const NO_CALL: usize = 15;
+pub const DILATE_BY_MAP: usize = 15;
 
-// How many levels each accepted case lends, and how many bytes or levels of room for the answer.
-const LEVELS: [usize; 15] = [9, 25, 25, 9, 9, 9, 9, 9, 0, 0, 0, 9, 25, 9, 25];
+pub const NO_CALL: usize = 16;
 
-const ROOM: [usize; 15] = [0, 0, 0, 0, 9, 3, 3, 41, 9, 1, 10, 3, 3, 9, 9];
+// How many levels each accepted case lends, how many more to work with or as a map, and how many bytes or levels of room for the
+// answer.
+const LEVELS: [usize; 16] = [9, 25, 25, 9, 9, 9, 9, 9, 0, 0, 0, 9, 25, 9, 25, 25];
+
+const MORE: [usize; 16] = [0, 0, 0, 0, 0, 0, 0, 0, 0, 0, 0, 9, 25, 9, 25, 9];
+
+const ROOM: [usize; 16] = [0, 0, 0, 0, 9, 3, 3, 41, 9, 1, 10, 3, 3, 9, 9, 3];
 
 // A case: the call; the frame; how many bytes of sheet are lent, and their value; the element's side, its bytes as decimal digits
 // (9 stands for 255) and how many of them are lent; the size, cap or allowance; the record, by its number in `records`; how many
-// levels are lent and what they are filled with, and how many more to work with; the room for the answer.
+// levels are lent, how many more to work with or as a map, and what all of them are filled with; the room for the answer.
 pub struct Case {
     pub call: usize,
     pub width: usize,
@@ -58,7 +63,7 @@ pub struct Case {
     pub answer: usize,
 }
 
-fn entry(table: [usize; 15], call: usize) -> usize {
+fn entry(table: [usize; 16], call: usize) -> usize {
     if NO_CALL <= call {
         return 0;
     }
@@ -68,6 +73,7 @@ fn entry(table: [usize; 15], call: usize) -> usize {
 // The accepted case of a call: a full sheet 3 by 3, the cross, size 1, and a run with all rows done.
 pub fn accepted(call: usize) -> Case {
     let levels = entry(LEVELS, call);
+    let more = entry(MORE, call);
     let answer = entry(ROOM, call);
     Case {
         call,
@@ -82,7 +88,7 @@ pub fn accepted(call: usize) -> Case {
         run: 2,
         levels,
         filled: 0,
-        more: levels,
+        more,
         answer,
     }
 }

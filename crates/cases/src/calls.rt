@@ -7,7 +7,7 @@ use filters::Input;
 // What is printed for a line that is no case.
 pub const NO_CASE: u32 = 99;
 
-// An opening, a closing or a transform.
+// An opening, a closing, a transform, or a dilation by a map, which the second levels are.
 fn filtered(
     call: usize,
     input: Input,
@@ -30,6 +30,9 @@ fn filtered(
     }
     if call == asking::CLOSING_LEVELS {
         return filters::closing_levels(input, sheet, cells, number, first, second, levels);
+    }
+    if call == asking::DILATE_BY_MAP {
+        return maps::dilate_by_map(input, sheet, cells, number, second, first, out);
     }
     NO_CASE
 }

@@ -71,7 +71,7 @@ pub fn answer(case: Case, file: &[u8]) -> u32 {
     let sheet_room = [byte_of(case.value); SHEET];
     let cells_room = cells_of(case.element);
     let mut first_room = [level_of(byte_of(case.filled)); LEVELS];
-    let mut second_room = [0u16; MORE];
+    let mut second_room = [level_of(byte_of(case.filled)); MORE];
     let mut levels_room = [0u16; ANSWER];
     let mut bytes_room = [0u8; ANSWER];
     let first_part: &mut [u16] = &mut first_room;

@@ -3,11 +3,8 @@
 -- That no case is refused, and that its sheet is drawn in 0 and 1, is computed over the whole table.
 use Prim.Native.Nat.{ℕ, _≤_, _<_}
 use native.Mathlib.Decide.{ℕ-discrete, decLe, decLt}
-use native.Mathlib.Nat.{le-of-eq}
-use native.Mathlib.Omega.{arith}
 use mathlib.Core.Path.{_≡_, refl, sym, subst, _∙_}
 use mathlib.Core.Bool.{not, _||_}
-use mathlib.Core.Logic.{_↔_, inl, inr}
 use mathlib.Core.List.{List, [], _∷_, _++_}
 use lib.Dec.{eqb, ltb}
 use lib.IntN.{pos}
@@ -18,9 +15,8 @@ use Rattle.basics.specs.Refusals.{Refusal, first, Answers}
 use Rattle.basics.specs.Tables.{table, raster}
 use Rattle.basics.proofs.TableLaws.{length-raster, getD-raster}
 use Rattle.grid.specs.Points.{Point, at}
-use Rattle.grid.specs.Sets.{PointSet}
 use Rattle.grid.specs.Starred.{drawn, Question, erosionLevels, openingLevels, dilationLevels, closingLevels, erodedBy, openedBy}
-use Rattle.grid.specs.Starred.{croppedLevels, IsPixel, IsAnswer, Case, shapeOf, AllHold, starredCases as cases, figureOf}
+use Rattle.grid.specs.Starred.{croppedLevels, IsAnswer, Case, shapeOf, AllHold, starredCases as cases, figureOf}
 use Rattle.grid.proofs.LevelLaws.{last-unique, first-unique}
 use Rattle.grid.proofs.SameSets.{answer-same}
 use Rattle.grid.proofs.Searches.{Yes, by-test, all-below, both-dec}
@@ -31,10 +27,10 @@ use Rattle.sheet.specs.Sheets.{packedByte, packed, foreground, isSideOut}
 use Rattle.sheet.proofs.PixelLaws.{packed-means}
 use Rattle.run.specs.StarredRuns.{sheetOf, bytesOf, levelsOf, pictureOf}
 use Rattle.run.proofs.StarredRuns.{starred-runs, after-one-row}
-use Rattle.filters.specs.Filters.{Buffers, Cleared, IsSheet, AreLevels, openRefusals, openingRefusals, closingRefusals}
+use Rattle.filters.specs.Filters.{Buffers, Cleared, AreLevels, openRefusals, openingRefusals, closingRefusals}
 use Rattle.filters.specs.Filters.{inputRefusals, isCanvasWrong, frameSize, closingSize, sheetSize}
 use Rattle.filters.specs.StarredFilters.{Gives, inputOf, FilterGives, FiltersGive, EveryStarredCase}
-use Rattle.filters.proofs.Uniqueness.{packed-sheet, sheet-one, levels-one, gives}
+use Rattle.filters.proofs.Uniqueness.{pixels-sheet, sheet-one, levels-one, gives}
 
 -- where the number goes by the lengths of the buffers, one computation of it serves all that fit
 gives-by-lengths : (refusals : Buffers → List Refusal) (number : ℕ → ℕ → ℕ → ℕ)
@@ -129,20 +125,6 @@ module _ (c : Case) (binary : Binary c) where
     size = length-raster (c .width) (c .height) (drawn (c .expected));
   }
 
-  is-sheet : (A : PointSet)
-      → ((row col : ℕ) → row < c .height → col < c .width → IsPixel (A (at (pos row) (pos col))) (drawn (c .expected) row col))
-      → IsSheet (c .width) (c .height) A (pictureOf c)
-  is-sheet A h = packed-sheet (c .width) (c .height) A (drawn (c .expected)) _ refl (λ row col a b. small (h row col a b))
-      (λ row col a b. is (h row col a b))
-    where
-      small : {P : Type 0} {v : ℕ} → IsPixel P v → v ≤ 1
-      small (inl p) = le-of-eq (p .0)
-      small (inr p) = let e = p .0 in omega arith
-
-      is : {P : Type 0} {v : ℕ} → IsPixel P v → P ↔ (v ≡ 1)
-      is (inl p) = ((λ _. p .0), (λ _. p .1))
-      is (inr p) = ((λ h. absurd (p .1 h)), (λ e. absurd (let z = p .0 in omega arith)))
-
   given : (q : Question) → NotRefused c q
       → ((row : ℕ) → row < c .height → (col : ℕ) → col < c .width
       → IsAnswer q (figureOf c) (shapeOf c) (at (pos row) (pos col)) (drawn (c .expected) row col)) → FilterGives q c
@@ -155,7 +137,8 @@ module _ (c : Case) (binary : Binary c) where
       _ (levels-one (c .width) (c .height) _ (λ p m n. first-unique)) _ _ t (are-levels _ (same-answer (closingLevels R) h))
   given (openedBy n) t h =
       gives-by-lengths (openRefusals (inputOf c) (sheetOf c) (bytesOf c) n) (openNumber c n) (λ lent. refl)
-      _ (sheet-one (c .width) (c .height) _) _ _ t (is-sheet _ (same-answer (openedBy n) h))
+      _ (sheet-one (c .width) (c .height) _) _ _ t
+      (pixels-sheet (c .width) (c .height) _ (drawn (c .expected)) (same-answer (openedBy n) h))
   given erosionLevels t h = tt
   given (dilationLevels R) t h = tt
   given (erodedBy n) t h = tt

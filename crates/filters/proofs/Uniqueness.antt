@@ -2,9 +2,10 @@
 -- A packed sheet is its own packing, and so fixed by its pixels; levels are fixed since each level is.
 use Prim.Native.Nat.{ℕ, _+_, _*_, _≤_, _<_}
 use native.Mathlib.Decide.{ℕ-discrete}
+use native.Mathlib.Nat.{le-of-eq}
 use native.Mathlib.Omega.{arith}
 use mathlib.Core.Path.{_≡_, refl, sym, ap, _∙_}
-use mathlib.Core.Logic.{_↔_}
+use mathlib.Core.Logic.{_↔_, inl, inr}
 use mathlib.Core.List.{List}
 use lib.IntN.{pos}
 use lib.ListN.{length, getD, replicate}
@@ -13,6 +14,7 @@ use Rattle.basics.proofs.RefusalLaws.{accepts, answers-unique}
 use Rattle.basics.proofs.TableLaws.{raster-is}
 use Rattle.grid.specs.Points.{Point, at}
 use Rattle.grid.specs.Sets.{PointSet}
+use Rattle.grid.specs.Starred.{IsPixel}
 use Rattle.grid.proofs.LevelLaws.{last-unique, first-unique}
 use Rattle.sheet.specs.Sheets.{pixel, packed}
 use Rattle.sheet.proofs.PixelLaws.{pixel-binary, pixel-packed, packed-same}
@@ -32,6 +34,20 @@ module _ (width height : ℕ) where
     where
       own : (row col : ℕ) → row < height → col < width → pixel width out row col ≡ f row col
       own row col a b = ap (λ l. pixel width l row col) e ∙ pixel-packed width height f small row col a b
+
+  -- and of pixels that are said point by point
+  pub pixels-sheet : (A : PointSet) (f : ℕ → ℕ → ℕ)
+      → ((row col : ℕ) → row < height → col < width → IsPixel (A (at (pos row) (pos col))) (f row col))
+      → IsSheet width height A (packed width height f)
+  pixels-sheet A f h = packed-sheet A f _ refl (λ row col a b. small (h row col a b)) (λ row col a b. is (h row col a b))
+    where
+      small : {P : Type 0} {v : ℕ} → IsPixel P v → v ≤ 1
+      small (inl p) = le-of-eq (p .0)
+      small (inr p) = let e = p .0 in omega arith
+
+      is : {P : Type 0} {v : ℕ} → IsPixel P v → P ↔ (v ≡ 1)
+      is (inl p) = ((λ _. p .0), (λ _. p .1))
+      is (inr p) = ((λ h. absurd (p .1 h)), (λ e. absurd (let z = p .0 in omega arith)))
 
   pub sheet-one : (A : PointSet) (x y : List ℕ) → IsSheet width height A x → IsSheet width height A y → x ≡ y
   sheet-one A x y p q = p .padding ∙ packed-same width height (pixel width x) (pixel width y) same ∙ sym (q .padding)

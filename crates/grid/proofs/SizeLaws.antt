@@ -2,11 +2,11 @@
 -- Each is a regrouping of who is moved by what.
 use mathlib.Core.Path.{_≡_, sym, _∙_, ap, ap₂, subst}
 use mathlib.Core.Logic.{_↔_}
-use Prim.Native.Nat.{ℕ}
+use Prim.Native.Nat.{ℕ, _<_}
 use native.Mathlib.Decide.{ℕ-discrete, decLt}
 use lib.IntN.{ℤ, pos, negsuc, pos-ne-negsuc}
 use Rattle.grid.specs.Points.{Point, at, _⊕_, neg}
-use Rattle.grid.specs.Sets.{PointSet, fold, dilated, _≈_}
+use Rattle.grid.specs.Sets.{PointSet, fold, _≈_}
 use Rattle.grid.specs.Figures.{figure, element}
 use Rattle.grid.specs.Starred.{drawn, IsPixel, pair}
 use Rattle.grid.specs.Sizes.{dilatedBySizes, sizesOf, OneSizeDilates, twoPoints, theirSizes, theirPoints, TwoSizes}
@@ -37,9 +37,15 @@ pub by-sizes-moved : (A K : PointSet) (S : Point → ℕ) (c x : Point)
     → dilatedBySizes (λ p. A (p ⊕ c)) (λ p. S (p ⊕ c)) K x ↔ dilatedBySizes A S K (x ⊕ c)
 by-sizes-moved A K S c x = (
   (λ (a, ha, (b, hb, e)). (a ⊕ c, ha, (b, hb, ap (λ z. z ⊕ c) e ∙ ⊕-assoc b a c))),
-  (λ (a, ha, (b, hb, e)). let same = sym (⊖-cancel a c) in
-      (a ⊕ neg c, subst A same ha, (b, subst (λ p. fold K (S p) b) same hb,
-      sym (⊕-cancel x c) ∙ ap (λ z. z ⊕ neg c) e ∙ ⊕-assoc b a (neg c)))),
+  (λ (a, ha, (b, hb, e)). let same = sym (⊖-cancel a c) in (
+    a ⊕ neg c,
+    subst A same ha,
+    (
+      b,
+      subst (λ p. fold K (S p) b) same hb,
+      sym (⊕-cancel x c) ∙ ap (λ z. z ⊕ neg c) e ∙ ⊕-assoc b a (neg c),
+    ),
+  )),
 )
 
 -- the worked example, computed
@@ -59,10 +65,12 @@ by-sizes-decided {A} {K} S s t x =
     (λ a. fold-searched K t (S a) .any (λ b. x ≡ b ⊕ a) (λ b. point-dec x (b ⊕ a)))
 
 sizes-dec : Dec TwoSizes
-sizes-dec = all-below 7 (λ col. IsPixel (dilatedBySizes (figure 7 1 (drawn twoPoints)) (sizesOf (drawn theirSizes))
-    (element 3 (drawn pair)) (at (pos 0) (pos col))) (drawn theirPoints 0 col))
+sizes-dec =
+    let Right : ℕ → ℕ → Type 0 = λ row col. IsPixel (dilatedBySizes (figure 7 1 (drawn twoPoints)) (sizesOf (drawn theirSizes))
+    (element 3 (drawn pair)) (at (pos row) (pos col))) (drawn theirPoints row col) in
+    all-below 1 (λ row. (col : ℕ) → col < 7 → Right row col) (λ row. all-below 7 (Right row)
     (λ col. pixel-dec _ (by-sizes-decided (sizesOf (drawn theirSizes)) (figure-searched 7 1 (drawn twoPoints))
-    (element-searched 3 (drawn pair)) (at (pos 0) (pos col))) (drawn theirPoints 0 col))
+    (element-searched 3 (drawn pair)) (at (pos row) (pos col))) (drawn theirPoints row col)))
 
 pub two-sizes : TwoSizes
 unfolding Yes sizes-dec by-sizes-decided point-dec pixel-dec all-below any-below both-dec same-dec implies-dec origin-searched

@@ -32,6 +32,6 @@ abbrev pub theirPoints : Drawing
 theirPoints = oneRow (0 ∷ 1 ∷ 0 ∷ 0 ∷ 0 ∷ 1 ∷ 1 ∷ [])
 
 abbrev pub TwoSizes : Type 0
-TwoSizes = (col : ℕ) → col < 7
+TwoSizes = (row : ℕ) → row < 1 → (col : ℕ) → col < 7
     → IsPixel (dilatedBySizes (figure 7 1 (drawn twoPoints)) (sizesOf (drawn theirSizes)) (element 3 (drawn pair))
-    (at (pos 0) (pos col))) (drawn theirPoints 0 col)
+    (at (pos row) (pos col))) (drawn theirPoints row col)

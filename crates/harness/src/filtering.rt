@@ -1,6 +1,7 @@
-// Opening, closing and their transforms: the library's own contracts, at the boundary's numbers.
+// Opening, closing, their transforms, and dilating by a map: the library's own contracts, at the boundary's numbers.
 use filters::Input;
 ghost use Rattle.filters.specs.Filters.{Opens, Closes, OpeningLevels, ClosingLevels};
+ghost use Rattle.maps.specs.Maps.{DilatesByMap};
 
 // Public: the sheet opened by a size, into `out`. Refusals 2 to 8, 10, 11.
 #[no_mangle]
@@ -99,4 +100,30 @@ pub extern "C" fn wt_closing_levels(
         side: side as usize,
     };
     filters::closing_levels(input, sheet, cells, cap as usize, first, second, out)
+}
+
+// Public: the sheet in which each foreground point is dilated by its size in a map, into `out`. Refusals 2 to 11, and 8 for a size
+// above the cap.
+#[no_mangle]
+pub extern "C" fn wt_dilate_by_map(
+    width: u64,
+    height: u64,
+    sheet: &[u8],
+    side: u64,
+    cells: &[u8],
+    cap: u64,
+    map: &[u16],
+    work: &mut [u16],
+    out: &mut [u8],
+) -> u32
+    ensures { λ r. ⌜ DilatesByMap (record { width = width; height = height; side = side }) (now (sheet .entry)) (now (cells .entry)) cap
+        (now (map .entry)) (record { work = now (work .entry); out = now (out .entry) }) r
+        (record { work = now (work .exit); out = now (out .exit) }) ⌝ }
+{
+    let input = Input {
+        width: width as usize,
+        height: height as usize,
+        side: side as usize,
+    };
+    maps::dilate_by_map(input, sheet, cells, cap as usize, map, work, out)
 }

@@ -2,3 +2,4 @@ pub mod SeenLaws
 pub mod Refusing
 pub mod RaisingLaws
 pub mod Answers
+pub mod Promises

@@ -3,20 +3,18 @@
 use filters::Input;
 use run::Record;
 ghost use mathlib.Core.Path.{_≡_};
-ghost use mathlib.Core.Bool.{false, cond};
+ghost use mathlib.Core.Bool.{false};
 ghost use Prim.Native.Nat.{_+_, _-_, _*_, _/_, _%_, _<_, _≤_};
-ghost use lib.Dec.{eqb, ltb};
+ghost use lib.Dec.{ltb};
 ghost use lib.ListN.{length, getD, replicate};
 ghost use Rattle.basics.specs.Bounds.{anyAbove};
-ghost use Rattle.basics.specs.Limits.{longestSide};
 ghost use Rattle.basics.specs.Refusals.{first};
-ghost use Rattle.sheet.specs.Sheets.{rowBytes, pixel};
 ghost use Rattle.run.specs.Patches.{Patch, Canvas};
 ghost use Rattle.run.specs.Starting.{dilationRefusals};
 ghost use Rattle.run.specs.Pictures.{thresholded};
 ghost use Rattle.run.specs.Demand2.{finished};
-ghost use Rattle.filters.specs.Filters.{frameSize, sheetSize};
-ghost use Rattle.maps.specs.Maps.{sizeIn, sizesSeen, mapRefusals, DilatesByMap};
+ghost use Rattle.filters.specs.Filters.{frameSize};
+ghost use Rattle.maps.specs.Maps.{sizesSeen, mapRefusals, DilatesByMap};
 ghost use Rattle.maps.specs.Raising.{raised, Raised, StartsByMap, Fits, Finishes};
 
 // Whether entry `k` of the map is above the cap, and stands at a foreground point.
@@ -61,8 +59,15 @@ fn map_refusal(
 {
     let width = input.width;
     let height = input.height;
-    let refusal =
-        run::starting::dilation_refusal(width, height, sheet, input.side, bytes, cap, work);
+    let refusal = run::starting::dilation_refusal(
+        width,
+        height,
+        sheet,
+        input.side,
+        bytes,
+        cap,
+        work,
+    );
     if refusal != 0 {
         return refusal;
     }

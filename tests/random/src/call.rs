@@ -1,5 +1,17 @@
 //! One call of the library with everything that is lent to it.
 
+/// The reason that a map gives a foreground point a size above the cap. Its number is 8, as the cap's own is, but it is
+/// judged last, so it stands in the lists of refusals, and is counted, as one of its own.
+pub const SIZE_OF_MAP: u32 = 108;
+
+/// The number that a call refused for a reason gives; 0 where there is none.
+pub fn number_of(reason: u32) -> u32 {
+    match reason {
+        SIZE_OF_MAP => 8,
+        number => number,
+    }
+}
+
 /// The functions of the boundary.
 #[derive(Clone, Copy, Debug, PartialEq, Eq)]
 pub enum Name {
@@ -14,6 +26,7 @@ pub enum Name {
     Close,
     OpeningLevels,
     ClosingLevels,
+    DilateByMap,
     Reflect,
     ReadPbm,
     WritePbm,
@@ -28,6 +41,8 @@ pub enum Field {
     File,
     Record,
     Levels,
+    Map,
+    /// The first work buffer, or the only one.
     WorkA,
     WorkB,
     BytesOut,
@@ -36,7 +51,7 @@ pub enum Field {
 }
 
 impl Name {
-    pub const ALL: [Name; 15] = [
+    pub const ALL: [Name; 16] = [
         Name::StartErosion,
         Name::StartDilation,
         Name::StartCropped,
@@ -48,6 +63,7 @@ impl Name {
         Name::Close,
         Name::OpeningLevels,
         Name::ClosingLevels,
+        Name::DilateByMap,
         Name::Reflect,
         Name::ReadPbm,
         Name::WritePbm,
@@ -67,6 +83,7 @@ impl Name {
             Name::Close => "wt_close",
             Name::OpeningLevels => "wt_opening_levels",
             Name::ClosingLevels => "wt_closing_levels",
+            Name::DilateByMap => "wt_dilate_by_map",
             Name::Reflect => "wt_reflect",
             Name::ReadPbm => "wt_read_pbm",
             Name::WritePbm => "wt_write_pbm",
@@ -75,7 +92,7 @@ impl Name {
     }
 
     /// The refusals of the call, in the order they are judged. At the C boundary an answer slice of another length
-    /// than stated gives 11 at 11's place, so 11 stands in every list.
+    /// than stated gives 11 at 11's place, so 11 stands in every list. `number_of` has the number of each.
     pub fn refusals(self) -> &'static [u32] {
         match self {
             Name::StartErosion => &[2, 3, 4, 5, 6, 7, 10, 11],
@@ -87,6 +104,7 @@ impl Name {
             Name::Open => &[2, 3, 4, 5, 6, 7, 8, 10, 11],
             Name::OpeningLevels => &[2, 3, 4, 5, 6, 7, 10, 11],
             Name::Close | Name::ClosingLevels => &[2, 3, 4, 5, 6, 7, 8, 9, 10, 11],
+            Name::DilateByMap => &[2, 3, 4, 5, 6, 7, 8, 9, 10, 11, SIZE_OF_MAP],
             Name::Reflect => &[4, 5, 6, 7, 11],
             Name::ReadPbm => &[21, 22, 2, 23, 24, 11],
             Name::WritePbm => &[2, 3, 11],
@@ -97,7 +115,7 @@ impl Name {
     /// The slices the call lends.
     pub fn fields(self) -> &'static [Field] {
         use Field::{
-            BytesOut, Cells, File, Levels, LevelsOut, Record, Sheet, WordsOut, WorkA, WorkB,
+            BytesOut, Cells, File, Levels, LevelsOut, Map, Record, Sheet, WordsOut, WorkA, WorkB,
         };
         match self {
             Name::StartErosion | Name::StartDilation | Name::StartCropped => {
@@ -108,6 +126,7 @@ impl Name {
             Name::Threshold => &[Record, Levels, BytesOut],
             Name::Open | Name::Close => &[Sheet, Cells, WorkA, WorkB, BytesOut],
             Name::OpeningLevels | Name::ClosingLevels => &[Sheet, Cells, WorkA, WorkB, LevelsOut],
+            Name::DilateByMap => &[Sheet, Cells, Map, WorkA, BytesOut],
             Name::Reflect => &[Cells, BytesOut],
             Name::ReadPbm => &[File, BytesOut, WordsOut],
             Name::WritePbm => &[Sheet, BytesOut, WordsOut],
@@ -127,6 +146,10 @@ impl Name {
         self.fields().contains(&Field::Record)
     }
 
+    pub fn takes_map(self) -> bool {
+        self.fields().contains(&Field::Map)
+    }
+
     /// Whether the call has a number of its own, kept in `Call::number`.
     pub fn takes_number(self) -> bool {
         matches!(
@@ -139,6 +162,7 @@ impl Name {
                 | Name::Open
                 | Name::Close
                 | Name::ClosingLevels
+                | Name::DilateByMap
         )
     }
 
@@ -146,7 +170,11 @@ impl Name {
     pub fn takes_cap(self) -> bool {
         matches!(
             self,
-            Name::StartDilation | Name::StartCropped | Name::Close | Name::ClosingLevels
+            Name::StartDilation
+                | Name::StartCropped
+                | Name::Close
+                | Name::ClosingLevels
+                | Name::DilateByMap
         )
     }
 }
@@ -167,6 +195,8 @@ pub struct Call {
     /// A record that is lent; the one that a start answers is `words_out`.
     pub record: Vec<u64>,
     pub levels: Vec<u16>,
+    /// A size for each point of the frame.
+    pub map: Vec<u16>,
     pub work_a: Vec<u16>,
     pub work_b: Vec<u16>,
     pub bytes_out: Vec<u8>,
@@ -188,6 +218,7 @@ impl Call {
             file: Vec::new(),
             record: Vec::new(),
             levels: Vec::new(),
+            map: Vec::new(),
             work_a: Vec::new(),
             work_b: Vec::new(),
             bytes_out: Vec::new(),
@@ -203,6 +234,7 @@ impl Call {
             Field::File => self.file.len(),
             Field::Record => self.record.len(),
             Field::Levels => self.levels.len(),
+            Field::Map => self.map.len(),
             Field::WorkA => self.work_a.len(),
             Field::WorkB => self.work_b.len(),
             Field::BytesOut => self.bytes_out.len(),
@@ -228,6 +260,7 @@ impl Call {
             Field::File => resize(&mut self.file, length, byte),
             Field::Record => resize(&mut self.record, length, |_| 0),
             Field::Levels => resize(&mut self.levels, length, level),
+            Field::Map => resize(&mut self.map, length, level),
             Field::WorkA => resize(&mut self.work_a, length, level),
             Field::WorkB => resize(&mut self.work_b, length, level),
             Field::BytesOut => resize(&mut self.bytes_out, length, byte),

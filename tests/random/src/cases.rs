@@ -8,6 +8,8 @@ use crate::report::Tally;
 const T: [u8; 9] = [0, 0, 0, 0, 1, 1, 0, 0, 0];
 const CROSS: [u8; 9] = [0, 1, 0, 1, 1, 1, 0, 1, 0];
 const BOX: [u8; 9] = [1; 9];
+/// The origin, right-down, and left: two steps lead one down, by way of the next column.
+const HOOK: [u8; 9] = [0, 0, 0, 1, 1, 0, 0, 0, 1];
 
 /// A sheet with its centre unset.
 const RING: [&str; 3] = ["111", "101", "111"];
@@ -209,8 +211,7 @@ fn case_4() -> bool {
 
 fn case_5() -> bool {
     let sheet = drawn(&["1", "0"]);
-    let element = [0, 0, 0, 1, 1, 0, 0, 0, 1];
-    dilation(&sheet, &element, 2) == [1, 3] && dilation(&sheet, &element, 1) == [1, 0]
+    dilation(&sheet, &HOOK, 2) == [1, 3] && dilation(&sheet, &HOOK, 1) == [1, 0]
 }
 
 fn case_6() -> bool {
@@ -311,8 +312,7 @@ fn crops() -> bool {
 /// The lower point is met by way of beyond the frame, in two steps.
 fn crops_beyond_the_frame() -> bool {
     let sheet = drawn(&["1", "0"]);
-    let element = [0, 0, 0, 1, 1, 0, 0, 0, 1];
-    cropped(&sheet, &element, 2) == [2, 0] && cropped(&sheet, &element, 1) == [65535, 0]
+    cropped(&sheet, &HOOK, 2) == [2, 0] && cropped(&sheet, &HOOK, 1) == [65535, 0]
 }
 
 fn sheets_of_crops() -> bool {
@@ -373,11 +373,161 @@ fn filters_chained() -> bool {
 
 /// Dilations within the frame don't fold: case 5's lower point is reached by way of beyond the frame.
 fn dilations_chained() -> bool {
-    let element = [0, 0, 0, 1, 1, 0, 0, 0, 1];
     let sheet = drawn(&["1", "0"]);
-    let dilated = |size| thresholded(&given(Name::StartDilation, &sheet, &element, size), size);
+    let dilated = |size| thresholded(&given(Name::StartDilation, &sheet, &HOOK, size), size);
     // By 1 the frame shows the sheet itself, so by 1 again it does too.
     dilated(1) == (0, sheet.bytes.clone()) && dilated(2) == (0, drawn(&["1", "1"]).bytes)
+}
+
+/// A dilation of a sheet by the sizes of a map, up to the cap.
+fn by_map(sheet: &Drawn, cells: &[u8], cap: u64, map: &[u16]) -> Call {
+    let mut call = given(Name::DilateByMap, sheet, cells, cap);
+    call.map = map.to_vec();
+    // What the answer held before must not show, nor in its padding.
+    call.bytes_out.fill(255);
+    call
+}
+
+/// Whether a dilation by a map is accepted, shows this sheet, and leaves its work buffer zero and the rest as it was.
+fn shows(call: &Call, rows: &[&str]) -> bool {
+    let mut expected = call.clone();
+    expected.bytes_out = drawn(rows).bytes;
+    expected.work_a.fill(0);
+    number_and_after(call) == (0, expected)
+}
+
+/// Whether a call is refused with this number and leaves everything as it was.
+fn refused(call: &Call, number: u32) -> bool {
+    number_and_after(call) == (number, call.clone())
+}
+
+/// A row of seven with two points, the first by 0 and the second by 1, or otherwise; what the others' sizes are doesn't
+/// matter.
+fn sizes_of_points() -> bool {
+    let row = drawn(&["0100010"]);
+    let dilated = |cap, first, second, other| {
+        let map = [other, first, other, other, other, second, other];
+        by_map(&row, &T, cap, &map)
+    };
+    [0, 1, 2, 65535].into_iter().all(|other| {
+        shows(&dilated(1, 0, 1, other), &["0100011"])
+            && shows(&dilated(4, 0, 1, other), &["0100011"])
+            && shows(&dilated(1, 1, 0, other), &["0110010"])
+            && shows(&dilated(3, 2, 0, other), &["0111010"])
+            && shows(&dilated(4, 4, 4, other), &["0111111"])
+            && shows(&dilated(4, 0, 0, other), &["0100010"])
+    })
+}
+
+/// A large size beside a small one, on either side: neither point hides the other, and each is moved by its own size.
+fn sizes_side_by_side() -> bool {
+    let pair = drawn(&["1100000"]);
+    let of_pair = |sizes: [u16; 2]| by_map(&pair, &T, 5, &[&sizes[..], &[9; 5]].concat());
+    // Larger below, as in perspective, and the other way round.
+    let column = drawn(&["00100", "00000", "00000", "00100"]);
+    let of_column = |above, below| {
+        let mut map = [65535; 20];
+        (map[2], map[17]) = (above, below);
+        by_map(&column, &CROSS, 2, &map)
+    };
+    shows(&of_pair([3, 0]), &["1111000"])
+        && shows(&of_pair([0, 3]), &["1111100"])
+        && shows(&of_pair([5, 1]), &["1111110"])
+        && shows(&of_column(0, 2), &["00100", "00100", "01110", "11111"])
+        && shows(&of_column(2, 0), &["11111", "01110", "00100", "00100"])
+        && shows(&of_column(1, 1), &["01110", "00100", "00100", "01110"])
+}
+
+/// The lower point is reached by way of beyond the frame, where the upper one's size is 2; and a point between that is
+/// background has no size.
+fn sizes_beyond_the_frame() -> bool {
+    let two = drawn(&["1", "0"]);
+    let three = drawn(&["1", "0", "1"]);
+    let lowest = drawn(&["0", "0", "1"]);
+    shows(&by_map(&two, &HOOK, 2, &[2, 65535]), &["1", "1"])
+        && shows(&by_map(&two, &HOOK, 2, &[1, 2]), &["1", "0"])
+        && shows(&by_map(&two, &HOOK, 2, &[0, 2]), &["1", "0"])
+        && shows(&by_map(&three, &HOOK, 2, &[2, 65535, 0]), &["1", "1", "1"])
+        && shows(&by_map(&three, &HOOK, 2, &[1, 65535, 2]), &["1", "0", "1"])
+        && shows(&by_map(&lowest, &HOOK, 4, &[4, 4, 4]), &["0", "0", "1"])
+}
+
+/// Padding bits are no points, and have no sizes; and with the cap 0 a sheet stays as it is, its padding cleared.
+fn sizes_and_padding() -> bool {
+    let rows = ["100000010", "000000001"];
+    let mut sheet = drawn(&rows);
+    for byte in [1, 3] {
+        sheet.bytes[byte] |= 0x7F;
+    }
+    let mut map = [65535; 18];
+    let mut of_points = |cap, sizes: [u16; 3]| {
+        [map[0], map[7], map[17]] = sizes;
+        by_map(&sheet, &CROSS, cap, &map)
+    };
+    shows(&of_points(0, [0, 0, 0]), &rows)
+        && refused(&of_points(0, [0, 0, 1]), 8)
+        && shows(&of_points(1, [1, 0, 0]), &["110000010", "100000001"])
+        && shows(&of_points(1, [0, 1, 1]), &["100000111", "000000011"])
+}
+
+/// One fault that a dilation by a map can have, and the number that it gives.
+type Fault = (u32, fn(&mut Call));
+
+/// From the last to be judged to the first. None mends another that can stand beside it.
+const FAULTS: [Fault; 13] = [
+    (8, |call| call.map[1] = 65535),
+    (11, |call| call.bytes_out.push(0)),
+    (10, |call| call.work_a.push(0)),
+    (10, |call| call.map.push(0)),
+    (9, |call| call.number = 2047),
+    (8, |call| call.number = 2048),
+    (7, |call| call.cells = vec![0, 0, 0, 0, 1, 0, 0, 0, 0]),
+    (6, |call| call.cells[4] = 0),
+    (5, |call| call.cells[0] = 2),
+    (4, |call| call.cells.push(1)),
+    (4, |call| call.side = 2),
+    (3, |call| call.sheet.push(0)),
+    (2, |call| call.width = 0),
+];
+
+/// Each fault alone gives its number, and so it does beside all those that are judged after it.
+fn sizes_refused() -> bool {
+    let sound = by_map(&drawn(&["010"]), &T, 1, &[65535, 1, 65535]);
+    let mut worse = sound.clone();
+    shows(&sound, &["011"])
+        && FAULTS.into_iter().all(|(number, fault)| {
+            let mut alone = sound.clone();
+            fault(&mut alone);
+            fault(&mut worse);
+            refused(&alone, number) && refused(&worse, number)
+        })
+}
+
+/// The ends of the ranges of sizes, caps, frames and lengths.
+fn ends_of_sizes() -> bool {
+    let ends = drawn(&["101"]);
+    let sizes = |map: &[u16]| by_map(&ends, &T, 3, map);
+    let number = |width, cap| {
+        let call = by_map(&full(width, 1), &CROSS, cap, &vec![0; count(width)]);
+        number_and_after(&call).0
+    };
+    let mut canvas_sized = sizes(&[0; 3]);
+    canvas_sized.set_length(Field::Map, canvas_sized.work_a.len());
+    let mut frame_sized = sizes(&[0; 3]);
+    frame_sized.set_length(Field::WorkA, 3);
+    shows(&sizes(&[3, 4, 3]), &["111"])
+        && refused(&sizes(&[4, 0, 0]), 8)
+        && refused(&sizes(&[0, 0, 4]), 8)
+        && refused(&sizes(&[0, 0, 65535]), 8)
+        && refused(&sizes(&[0, 0]), 10)
+        && refused(&sizes(&[]), 10)
+        && refused(&sizes(&[0; 4]), 10)
+        && refused(&canvas_sized, 10)
+        && refused(&frame_sized, 10)
+        && number(4096, 0) == 0
+        && number(4097, 0) == 2
+        && number(4094, 1) == 0
+        && number(4095, 1) == 9
 }
 
 /// The largest sheet, full, with the box: the level is the distance to the nearest border.
@@ -424,6 +574,27 @@ fn longest_crop() -> bool {
         })
 }
 
+/// The widest canvas of a map, a row of 2,050 with the cap 1,023: its first point by the cap, and a later one by 10.
+fn longest_map() -> bool {
+    let place = |column: usize| (column / 8, 0x80 >> (column % 8));
+    let mut row = full(2050, 1);
+    row.bytes.fill(0);
+    let mut map = vec![65535; 2050];
+    for (column, size) in [(0, 1023), (1500, 10)] {
+        let (byte, bit) = place(column);
+        row.bytes[byte] |= bit;
+        map[column] = size;
+    }
+    let (number, after) = number_and_after(&by_map(&row, &T, 1023, &map));
+    number == 0
+        && after.work_a.iter().all(|level| *level == 0)
+        && (0..2050).all(|column| {
+            let (byte, bit) = place(column);
+            let held = column <= 1023 || (1500..=1510).contains(&column);
+            (after.bytes_out[byte] & bit != 0) == held
+        })
+}
+
 /// A full row of 4,096 with its right neighbour: every opening up to size 4,095 holds all of it.
 fn longest_opening() -> bool {
     let sheet = full(4096, 1);
@@ -438,7 +609,7 @@ fn longest_opening() -> bool {
 
 type Case = (&'static str, fn() -> bool);
 
-const CASES: [Case; 21] = [
+const CASES: [Case; 28] = [
     ("case 1: full 3 by 3, cross", case_1),
     ("case 2: full 5 by 1, right neighbour", case_2),
     ("case 3: the same, reflected", case_3),
@@ -456,9 +627,16 @@ const CASES: [Case; 21] = [
     ("crops: levels printed", levels_of_crops_printed),
     ("chains: openings and closings fold", filters_chained),
     ("chains: dilations in the frame do not", dilations_chained),
+    ("maps: a row of seven by hand", sizes_of_points),
+    ("maps: large sizes beside small ones", sizes_side_by_side),
+    ("maps: by way of beyond the frame", sizes_beyond_the_frame),
+    ("maps: padding bits, and cap 0", sizes_and_padding),
+    ("maps: each refusal, and their order", sizes_refused),
+    ("maps: the ends of the ranges", ends_of_sizes),
     ("largest frame: erosion of 4,096 by 4,096", largest_erosion),
     ("largest canvas: dilation with cap 2,047", largest_dilation),
     ("longest crop: a row of 2,050 with cap 1,023", longest_crop),
+    ("longest map: a row of 2,050 with cap 1,023", longest_map),
     ("longest opening: sizes up to 4,096", longest_opening),
 ];
 

@@ -3,7 +3,7 @@
 //! on is refused where the first sheet would be.
 
 use crate::call::{Call, Name};
-use crate::check::{check, print_small};
+use crate::check::{answer, check, print_small};
 use crate::damage::damage;
 use crate::dice::Dice;
 use crate::raw::perform;
@@ -31,15 +31,6 @@ fn again(call: &Call, sheet: &[u8], size: u64) -> Call {
     lend_due_lengths(&mut next);
     scramble(&mut Dice::new(size), &mut next);
     next
-}
-
-/// The sheet that a call answers, where it is accepted.
-fn answer(call: &Call) -> Result<Vec<u8>, String> {
-    let (number, after) = perform(call)?;
-    match number {
-        0 => Ok(after.bytes_out),
-        number => Err(format!("    size {}: refused with {number}\n", call.number)),
-    }
 }
 
 fn compare_chain(first: &Call, sizes: &[u64]) -> Result<(), String> {

@@ -1,6 +1,6 @@
 //! Compares the library with the rules, one call at a time, and whole runs with the definitions.
 
-use crate::call::{Call, Field, Name};
+use crate::call::{number_of, Call, Field, Name, SIZE_OF_MAP};
 use crate::damage::damage;
 use crate::dice::Dice;
 use crate::kinds::Kind;
@@ -8,15 +8,17 @@ use crate::looks::{check_looks, Cuts};
 use crate::pictures;
 use crate::raw::perform;
 use crate::report::{describe, describe_difference, Tally};
-use crate::rules::{due_length, judge, pack, sheet_set, Record};
+use crate::rules::{due_length, judge, judge_by_reason, pack, sheet_set, Record};
 use crate::shrink::shrink;
 use crate::sound::{allowance, sound_call, Scale};
 
-/// The name of the test that a call belongs to, by what it has to answer.
-pub fn test_of(name: Name, number: u32) -> String {
-    match number {
-        0 => format!("{} accepted", name.function()),
-        number => format!("{} refused with {number}", name.function()),
+/// The name of the test that a call belongs to, by the reason why it has to be refused, 0 for none.
+pub fn test_of(name: Name, reason: u32) -> String {
+    let (function, number) = (name.function(), number_of(reason));
+    match reason {
+        0 => format!("{function} accepted"),
+        SIZE_OF_MAP => format!("{function} refused with {number}, last, for a size"),
+        _ => format!("{function} refused with {number}"),
     }
 }
 
@@ -27,8 +29,9 @@ fn differs(call: &Call) -> bool {
 
 /// Compares one call, and answers what it came to, or nothing where it differs.
 pub fn check(tally: &mut Tally, call: &Call) -> Option<(u32, Call)> {
-    let expected = judge(call);
-    let test = test_of(call.name, expected.0);
+    let (reason, after) = judge_by_reason(call);
+    let test = test_of(call.name, reason);
+    let expected = (number_of(reason), after);
     tally.tried(&test);
     if tally.traced {
         eprint!("{test}:\n{}", describe(call));
@@ -52,6 +55,19 @@ pub fn print_small(test: &str, call: &Call, compare: impl Fn(&Call) -> Result<()
     println!("DIFFERENCE in {test}, made small:");
     print!("{}", describe(&small));
     print!("{}", compare(&small).err().unwrap_or_default());
+}
+
+/// The sheet that a call answers, where it is accepted.
+pub fn answer(call: &Call) -> Result<Vec<u8>, String> {
+    let (number, after) = perform(call)?;
+    match number {
+        0 => Ok(after.bytes_out),
+        number => Err(format!(
+            "    {} of {}: refused with {number}\n",
+            call.name.function(),
+            call.number
+        )),
+    }
 }
 
 /// A sound call of every function, and damaged ones.
@@ -157,14 +173,19 @@ fn canvas_width(start: &Call) -> u64 {
     }
 }
 
-/// Compares a whole run with the definitions: its collected levels, and its sheets of several sizes.
-fn compare_run(start: &Call) -> Result<(), String> {
+/// A run after all its rows, as the call that works them leaves it.
+pub fn whole_run(start: &Call) -> Result<Call, String> {
     let (number, started) = perform(start)?;
     if number != 0 {
         return Err(format!("    the start is refused with {number}\n"));
     }
     let whole = call_on_run(Name::Continue, &started.words_out, &started.levels, 8192);
-    let (_, finished) = perform(&whole)?;
+    Ok(perform(&whole)?.1)
+}
+
+/// Compares a whole run with the definitions: its collected levels, and its sheets of several sizes.
+fn compare_run(start: &Call) -> Result<(), String> {
+    let finished = whole_run(start)?;
     let collect = call_on_run(Name::Collect, &finished.record, &finished.levels, 0);
     let (number, collected) = perform(&collect)?;
 

@@ -2,7 +2,7 @@
 
 use crate::call::{Call, Field, Name};
 use crate::dice::Dice;
-use crate::rules::{Record, EDGE_RULE};
+use crate::rules::{frame_points, sound_sheet_set, Record, EDGE_RULE};
 
 /// Damages a call in one way. What comes of it (another refusal, or none) is for the rules to judge.
 pub fn damage(dice: &mut Dice, call: &mut Call) {
@@ -25,6 +25,11 @@ pub fn damage(dice: &mut Dice, call: &mut Call) {
         kinds.push(damage_record);
         kinds.push(damage_record);
         kinds.push(damage_rows_done);
+    }
+    if call.name.takes_map() {
+        kinds.push(damage_map);
+        kinds.push(damage_map);
+        kinds.push(damage_map_length);
     }
     if call.name == Name::WritePgm {
         kinds.push(damage_levels);
@@ -210,6 +215,31 @@ fn damage_levels(dice: &mut Dice, call: &mut Call) {
         u16::try_from(maximum + 1).unwrap_or(u16::MAX),
         u16::MAX,
     ]);
+}
+
+/// A size at or above the cap, mostly at a foreground point, where above is refused; else at a background point, where
+/// anything is accepted.
+fn damage_map(dice: &mut Dice, call: &mut Call) {
+    let Some(set) = sound_sheet_set(call) else {
+        return;
+    };
+    let wanted = dice.percent(70);
+    let mut places: Vec<usize> = (0..call.map.len()).collect();
+    let points = frame_points(call.width, call.height);
+    places.retain(|place| points.get(*place).map(|point| set.holds(*point)) == Some(wanted));
+    if places.is_empty() {
+        return;
+    }
+    let cap = u16::try_from(call.number).unwrap_or(u16::MAX);
+    call.map[dice.pick(&places)] = dice.pick(&[cap, cap.saturating_add(1), u16::MAX]);
+}
+
+/// A map of the canvas's length, a work buffer of the frame's, or the two lengths exchanged.
+fn damage_map_length(dice: &mut Dice, call: &mut Call) {
+    let (map, work) = (call.map.len(), call.work_a.len());
+    let (map, work) = dice.pick(&[(work, work), (map, map), (work, map)]);
+    call.set_length(Field::Map, map);
+    call.set_length(Field::WorkA, work);
 }
 
 fn damage_file(dice: &mut Dice, call: &mut Call) {

@@ -204,6 +204,19 @@ pub fn dilated(sheet: &Set, element: &Set, n: u64) -> Set {
     sheet.plus(&multiple(element, n))
 }
 
+/// Dilating each point by a size of its own: the union, over the points a with their sizes n, of nK moved to a.
+pub fn dilated_by_sizes(points: &[(Point, u64)], element: &Set) -> Set {
+    let largest = points.iter().map(|(_, size)| *size).max().unwrap_or(0);
+    // Each nK once, by its n.
+    let multiples: Vec<Set> = (0..=largest).map(|n| multiple(element, n)).collect();
+    let mut union = Vec::new();
+    for (a, size) in points {
+        let sum = &multiples[usize::try_from(*size).expect("sizes are at most 2,047")];
+        union.extend(sum.points.iter().map(|b| a.plus(*b)));
+    }
+    Set::of(&union)
+}
+
 /// Opening by n: eroding by n, then dilating by n.
 pub fn opened(sheet: &Set, element: &Set, n: u64) -> Set {
     let (kept, sum) = eroded_with_multiple(sheet, element, n);

@@ -1,5 +1,6 @@
-//! Everything there is on a small scale: all sheets of a few points with all elements of side 3, all changes of one byte
-//! in the header of a file, all columns of rows of up to five bytes, and all kinds with all edge rules.
+//! Everything there is on a small scale: all sheets of a few points with all elements of side 3 and all maps of sizes up to
+//! 2, all changes of one byte in the header of a file, all columns of rows of up to five bytes, and all kinds with all edge
+//! rules.
 
 use crate::call::{Call, Field, Name};
 use crate::check::{check, check_run};
@@ -31,12 +32,27 @@ fn elements() -> Vec<Vec<u8>> {
         .collect()
 }
 
+/// Every map of sizes 0 to 2 at the points held, with 65,535 at the others.
+fn maps(held: &[bool]) -> Vec<Vec<u16>> {
+    held.iter().fold(vec![Vec::new()], |maps, held| {
+        let sizes: &[u16] = if *held { &[0, 1, 2] } else { &[u16::MAX] };
+        let longer = |size: &u16| {
+            let size = *size;
+            maps.iter()
+                .map(move |map| [map.as_slice(), &[size]].concat())
+        };
+        sizes.iter().flat_map(longer).collect()
+    })
+}
+
 pub fn check_small_sheets(tally: &mut Tally) {
     let elements = elements();
     for (width, height) in FRAMES {
         let count = u32::try_from(width * height).expect("four at most");
         for number in 0..1 << count {
-            let sheet = pack(width, &flags(number, count));
+            let held = flags(number, count);
+            let sheet = pack(width, &held);
+            let maps = maps(&held);
             for cells in &elements {
                 let make = |name: Name, number: u64| {
                     let mut call = Call::new(name);
@@ -51,6 +67,11 @@ pub fn check_small_sheets(tally: &mut Tally) {
                 check(tally, &make(Name::Close, 1));
                 check(tally, &make(Name::OpeningLevels, 0));
                 check(tally, &make(Name::ClosingLevels, 2));
+                for map in &maps {
+                    let mut call = make(Name::DilateByMap, 2);
+                    call.map.clone_from(map);
+                    check(tally, &call);
+                }
                 for kind in Kind::ALL {
                     let start = make(kind.start(), kind.most_cap().min(2));
                     check_run(tally, &start);

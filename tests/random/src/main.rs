@@ -5,9 +5,9 @@
 //! First come the sheets worked by hand, the largest sheets, and all calls of a small scale; then the random rounds.
 //! Every round makes random calls of every function, sound and damaged, and compares the number and every lent slice
 //! with what the rules say; it works runs of all kinds, whole and in slices, looks at them at their cuts, and compares
-//! them with the definitions; and it chains filters. The same seed and rounds give the same calls. `--trace` prints each
-//! call to standard error before it is made, for a library that crashes. The last line is `random: N passed, M failed`,
-//! and the exit status is 0 exactly when M is 0.
+//! them with the definitions; it chains filters; and it compares maps with one another and with runs. The same seed and
+//! rounds give the same calls. `--trace` prints each call to standard error before it is made, for a library that crashes.
+//! The last line is `random: N passed, M failed`, and the exit status is 0 exactly when M is 0.
 #![deny(unsafe_code)]
 
 mod call;
@@ -21,6 +21,7 @@ mod exhaustive;
 mod guarded;
 mod kinds;
 mod looks;
+mod maps;
 mod pictures;
 mod raw;
 mod report;
@@ -80,8 +81,8 @@ fn expected_tests() -> Tally {
     let mut tally = Tally::default();
     for name in Name::ALL {
         tally.expect(check::test_of(name, 0));
-        for number in name.refusals() {
-            tally.expect(check::test_of(name, *number));
+        for reason in name.refusals() {
+            tally.expect(check::test_of(name, *reason));
         }
     }
     for kind in Kind::ALL {
@@ -103,6 +104,8 @@ fn expected_tests() -> Tally {
         tally.expect(chains::folding_of(name));
         tally.expect(chains::passing_of(name));
     }
+    tally.expect(maps::ONE_SIZE.to_string());
+    tally.expect(maps::BACKGROUND.to_string());
     tally
 }
 
@@ -140,6 +143,7 @@ fn main() -> ExitCode {
         check::check_runs(&mut tally, &mut dice, scale);
         check::check_there_and_back(&mut tally, &mut dice, scale);
         chains::check_chains(&mut tally, &mut dice, scale);
+        maps::check_maps(&mut tally, &mut dice, scale);
     }
     println!("{:<52} {:>9}", "test", "tries");
     let (passed, failed) = tally.print();

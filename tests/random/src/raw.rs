@@ -18,6 +18,7 @@ pub fn perform(call: &Call) -> Result<(u32, Call), String> {
     let mut file = Guarded::new(&call.file);
     let mut record = Guarded::new(&call.record);
     let mut levels = Guarded::new(&call.levels);
+    let mut map = Guarded::new(&call.map);
     let mut work_a = Guarded::new(&call.work_a);
     let mut work_b = Guarded::new(&call.work_b);
     let mut bytes_out = Guarded::new(&call.bytes_out);
@@ -30,6 +31,7 @@ pub fn perform(call: &Call) -> Result<(u32, Call), String> {
     let (file_at, file_len) = file.lend();
     let (record_at, record_len) = record.lend();
     let (levels_at, levels_len) = levels.lend();
+    let (map_at, map_len) = map.lend();
     let (a_at, a_len) = work_a.lend();
     let (b_at, b_len) = work_b.lend();
     let (bytes_at, bytes_len) = bytes_out.lend();
@@ -60,6 +62,8 @@ pub fn perform(call: &Call) -> Result<(u32, Call), String> {
                 a_at, a_len, b_at, b_len, out_at, out_len),
             Name::ClosingLevels => c::wt_closing_levels(width, height, sheet_at, sheet_len, side, cells_at, cells_len,
                 number, a_at, a_len, b_at, b_len, out_at, out_len),
+            Name::DilateByMap => c::wt_dilate_by_map(width, height, sheet_at, sheet_len, side, cells_at, cells_len, number,
+                map_at, map_len, a_at, a_len, bytes_at, bytes_len),
             Name::Reflect => c::wt_reflect(side, cells_at, cells_len, bytes_at, bytes_len),
             Name::ReadPbm => c::wt_read_pbm(file_at, file_len, bytes_at, bytes_len, words_at, words_len),
             Name::WritePbm => c::wt_write_pbm(width, height, sheet_at, sheet_len, bytes_at, bytes_len,
@@ -75,6 +79,7 @@ pub fn perform(call: &Call) -> Result<(u32, Call), String> {
         file: taken(file, "the file")?,
         record: taken(record, "the record")?,
         levels: taken(levels, "the levels")?,
+        map: taken(map, "the map")?,
         work_a: taken(work_a, "the first work buffer")?,
         work_b: taken(work_b, "the second work buffer")?,
         bytes_out: taken(bytes_out, "the answer's bytes")?,

@@ -5,7 +5,7 @@ use std::fmt::Write;
 
 use crate::call::{Call, Field};
 use crate::kinds::Kind;
-use crate::rules::Record;
+use crate::rules::{due_length, Record};
 
 /// So many differences of one test are printed in full; the rest are only counted.
 const MOST_PRINTED: u64 = 2;
@@ -82,6 +82,9 @@ pub fn describe(call: &Call) -> String {
     if call.name.takes_number() {
         let _ = writeln!(text, "    number (cap, size or allowance) {}", call.number);
     }
+    if call.name.takes_map() {
+        describe_map(&mut text, call);
+    }
     if call.name.takes_record() {
         let _ = writeln!(text, "    record {:?}", call.record);
     }
@@ -133,6 +136,16 @@ fn describe_sheet(text: &mut String, call: &Call) {
     }
 }
 
+/// The map row by row, as the sheet is drawn; or as a list, where it doesn't fit the frame.
+fn describe_map(text: &mut String, call: &Call) {
+    let fits = call.map.len() as u128 == due_length(call, Field::Map);
+    let width = usize::try_from(call.width).unwrap_or(usize::MAX);
+    let width = if fits { width } else { usize::MAX };
+    for row in call.map.chunks(width.max(1)) {
+        let _ = writeln!(text, "    sizes {}", brief(row));
+    }
+}
+
 /// So many entries of a list are shown.
 const MOST_SHOWN: usize = 100;
 
@@ -170,6 +183,7 @@ pub fn describe_difference(
             Field::File => pair(&expected.1.file, &after.file),
             Field::Record => pair(&expected.1.record, &after.record),
             Field::Levels => pair(&expected.1.levels, &after.levels),
+            Field::Map => pair(&expected.1.map, &after.map),
             Field::WorkA => pair(&expected.1.work_a, &after.work_a),
             Field::WorkB => pair(&expected.1.work_b, &after.work_b),
             Field::BytesOut => pair(&expected.1.bytes_out, &after.bytes_out),

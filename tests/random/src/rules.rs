@@ -4,7 +4,7 @@
 //! Nothing here is fast or clever: a row is worked point by point as document 01 states it, and conditions are computed
 //! with numbers wide enough for any argument.
 
-use crate::call::{Call, Field, Name};
+use crate::call::{number_of, Call, Field, Name, SIZE_OF_MAP};
 use crate::definitions::{self, Point, Set};
 use crate::kinds::{Kind, NOTHING_FOUND};
 
@@ -14,22 +14,28 @@ pub const EDGE_RULE: usize = 55;
 
 /// The number the call has to give, and all its slices afterwards.
 pub fn judge(call: &Call) -> (u32, Call) {
+    let (reason, after) = judge_by_reason(call);
+    (number_of(reason), after)
+}
+
+/// The reason why the call has to be refused, 0 for none, and all its slices afterwards.
+pub fn judge_by_reason(call: &Call) -> (u32, Call) {
     let mut after = call.clone();
     let refusal = call
         .name
         .refusals()
         .iter()
-        .find(|number| applies(call, **number));
-    if let Some(number) = refusal {
-        return (*number, after);
+        .find(|reason| applies(call, **reason));
+    if let Some(reason) = refusal {
+        return (*reason, after);
     }
     accept(&mut after);
     (0, after)
 }
 
 /// Whether a refusal applies to a call to which no refusal before it in the order does.
-fn applies(call: &Call, number: u32) -> bool {
-    match number {
+fn applies(call: &Call, reason: u32) -> bool {
+    match reason {
         1 => Record::read(&call.record).is_none(),
         2 => match call.name {
             Name::ReadPbm => Header::read(&call.file).is_some_and(|header| header.frame.is_none()),
@@ -53,7 +59,7 @@ fn applies(call: &Call, number: u32) -> bool {
             let margin = call.number * ((call.side - 1) / 2);
             call.width + 2 * margin > 4096 || call.height + 2 * margin > 4096
         }
-        10 => [Field::Levels, Field::WorkA, Field::WorkB]
+        10 => [Field::Levels, Field::Map, Field::WorkA, Field::WorkB]
             .iter()
             .any(|field| call.name.fields().contains(field) && wrong_length(call, *field)),
         11 => [Field::BytesOut, Field::LevelsOut, Field::WordsOut]
@@ -65,8 +71,24 @@ fn applies(call: &Call, number: u32) -> bool {
         22 => Header::read(&call.file).is_none(),
         23 => raster_of(call).0.len() < raster_of(call).1,
         24 => raster_of(call).0.len() > raster_of(call).1,
-        _ => unreachable!("no call lists refusal {number}"),
+        SIZE_OF_MAP => {
+            let set = sheet_set(call.width, call.height, &call.sheet);
+            sizes(call).any(|(point, size)| set.holds(point) && size > call.number)
+        }
+        _ => unreachable!("no call lists refusal {reason}"),
     }
+}
+
+/// The points of the frame with their sizes, where the map has its length.
+fn sizes(call: &Call) -> impl Iterator<Item = (Point, u64)> + '_ {
+    let sizes = call.map.iter().map(|size| u64::from(*size));
+    frame_points(call.width, call.height).into_iter().zip(sizes)
+}
+
+/// The foreground points of the call's sheet, where it takes one that fits a sound frame.
+pub fn sound_sheet_set(call: &Call) -> Option<Set> {
+    let sound = call.name.takes_frame() && !applies(call, 2) && !applies(call, 3);
+    sound.then(|| sheet_set(call.width, call.height, &call.sheet))
 }
 
 /// Whether a slice has another length than the call's other arguments ask for. A file's room may be longer.
@@ -98,7 +120,7 @@ pub fn due_length(call: &Call, field: Field) -> u128 {
             let record = record_of(call);
             u128::from(record.width) * u128::from(record.height)
         }
-        (_, Field::LevelsOut) => u128::from(call.width) * u128::from(call.height),
+        (_, Field::LevelsOut | Field::Map) => u128::from(call.width) * u128::from(call.height),
         (name, Field::Levels | Field::WorkA | Field::WorkB) => {
             let margin = if name.takes_cap() {
                 u128::from(call.number) * u128::from((call.side - 1) / 2)
@@ -355,6 +377,13 @@ pub fn pack(width: u64, flags: &[bool]) -> Vec<u8> {
         .collect()
 }
 
+/// What a frame shows of a set, packed.
+fn pack_set(width: u64, height: u64, set: &Set) -> Vec<u8> {
+    let points = frame_points(width, height).into_iter();
+    let flags: Vec<bool> = points.map(|point| set.holds(point)).collect();
+    pack(width, &flags)
+}
+
 /// Changes the slices of a call that no refusal applies to.
 fn accept(call: &mut Call) {
     let points = || frame_points(call.width, call.height);
@@ -390,8 +419,7 @@ fn accept(call: &mut Call) {
         }
         Name::Open => {
             let opened = definitions::opened(&sheet(), &element(), call.number);
-            let flags: Vec<bool> = points().into_iter().map(|x| opened.holds(x)).collect();
-            call.bytes_out = pack(call.width, &flags);
+            call.bytes_out = pack_set(call.width, call.height, &opened);
             clear_work(call);
         }
         Name::Close => {
@@ -406,6 +434,14 @@ fn accept(call: &mut Call) {
         Name::ClosingLevels => {
             call.levels_out =
                 definitions::closing_levels(&sheet(), &element(), call.number, &points());
+            clear_work(call);
+        }
+        Name::DilateByMap => {
+            let set = sheet();
+            let points: Vec<(Point, u64)> =
+                sizes(call).filter(|(point, _)| set.holds(*point)).collect();
+            let dilated = definitions::dilated_by_sizes(&points, &element());
+            call.bytes_out = pack_set(call.width, call.height, &dilated);
             clear_work(call);
         }
         // The cell at b takes the byte at -b, and in a square around the origin -b is the cell counted from the end.
@@ -555,12 +591,7 @@ fn raster_of(call: &Call) -> (&[u8], usize) {
 fn cleared(width: u64, raster: &[u8]) -> Vec<u8> {
     let row_bytes = width.div_ceil(8);
     let height = raster.len() as u64 / row_bytes;
-    let set = sheet_set(width, height, raster);
-    let flags: Vec<bool> = frame_points(width, height)
-        .into_iter()
-        .map(|point| set.holds(point))
-        .collect();
-    pack(width, &flags)
+    pack_set(width, height, &sheet_set(width, height, raster))
 }
 
 fn pbm_file(call: &Call) -> Vec<u8> {

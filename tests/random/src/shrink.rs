@@ -2,7 +2,7 @@
 
 use crate::call::{Call, Field, Name};
 use crate::definitions::Point;
-use crate::rules::{due_length, frame_points, pack, sheet_set, Record, EDGE_RULE};
+use crate::rules::{due_length, frame_points, pack, sound_sheet_set, Record, EDGE_RULE};
 
 /// So many smaller calls are tried at most: each costs two calls, and a failing test should end soon.
 const MOST_TRIES: usize = 20_000;
@@ -35,10 +35,12 @@ fn smaller(call: &Call) -> Vec<Call> {
         if number < call.number {
             let mut next = call.clone();
             next.number = number;
+            lower_sizes(call, &mut next);
             fit_lengths(call, &mut next);
             list.push(next);
         }
     }
+    smaller_sizes(call, &mut list);
     // Points of the sheet and of the element, one by one.
     for (place, byte) in call.sheet.iter().enumerate() {
         for bit in 0..8 {
@@ -87,13 +89,9 @@ fn smaller(call: &Call) -> Vec<Call> {
 
 /// The frame without one of its outer rows or columns.
 fn smaller_frames(call: &Call, list: &mut Vec<Call>) {
-    let sheet_fits = call.width <= 4096
-        && call.height <= 4096
-        && call.sheet.len() as u128 == due_length(call, Field::Sheet);
-    if !call.name.takes_frame() || !sheet_fits {
+    let Some(set) = sound_sheet_set(call) else {
         return;
-    }
-    let set = sheet_set(call.width, call.height, &call.sheet);
+    };
     for (width, height, left, top) in [
         (call.width.div_ceil(2), call.height, 0, 0),
         (call.width, call.height.div_ceil(2), 0, 0),
@@ -106,19 +104,59 @@ fn smaller_frames(call: &Call, list: &mut Vec<Call>) {
         if width == 0 || height == 0 || !is_smaller {
             continue;
         }
-        let flags: Vec<bool> = frame_points(width, height)
+        // The points that stay, where they lay before.
+        let kept: Vec<Point> = frame_points(width, height)
             .into_iter()
-            .map(|point| {
-                set.holds(Point {
-                    column: point.column + left,
-                    row: point.row + top,
-                })
+            .map(|point| Point {
+                column: point.column + left,
+                row: point.row + top,
             })
             .collect();
+        let flags: Vec<bool> = kept.iter().map(|point| set.holds(*point)).collect();
         let mut next = call.clone();
         next.sheet = pack(width, &flags);
+        // Each point keeps its size, where the map has one for it.
+        let size = |point: &Point| {
+            let place = point.row.unsigned_abs() * call.width + point.column.unsigned_abs();
+            call.map.get(usize::try_from(place).ok()?).copied()
+        };
+        next.map = kept.iter().filter_map(size).collect();
         (next.width, next.height) = (width, height);
         fit_lengths(call, &mut next);
+        list.push(next);
+    }
+}
+
+/// Lowers the map's sizes to a smaller cap; those above the cap before stay, and so stay above it.
+fn lower_sizes(before: &Call, after: &mut Call) {
+    for size in &mut after.map {
+        if u64::from(*size) <= before.number {
+            *size = u16::try_from(after.number).map_or(*size, |cap| cap.min(*size));
+        }
+    }
+}
+
+/// A map with all sizes 0, or one of them smaller, or all smaller by one.
+fn smaller_sizes(call: &Call, list: &mut Vec<Call>) {
+    let mut none = call.clone();
+    none.map.fill(0);
+    list.push(none);
+    let above = u16::try_from(call.number).map_or(u16::MAX, |cap| cap.saturating_add(1));
+    for place in 0..call.map.len().min(400) {
+        let old = call.map[place];
+        for size in [0, above, old / 2, old.saturating_sub(1)] {
+            if size < old {
+                let mut next = call.clone();
+                next.map[place] = size;
+                list.push(next);
+            }
+        }
+    }
+    // For maps that have to keep one size; of larger numbers there would be too many steps.
+    if call.map.iter().all(|size| *size < above) {
+        let mut next = call.clone();
+        let sizes = next.map.iter_mut();
+        sizes.for_each(|size| *size = size.saturating_sub(1));
         list.push(next);
     }
 }
@@ -171,6 +209,7 @@ fn fit_lengths(before: &Call, after: &mut Call) {
     }
     for field in [
         Field::Levels,
+        Field::Map,
         Field::WorkA,
         Field::WorkB,
         Field::BytesOut,

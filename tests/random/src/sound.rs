@@ -3,7 +3,7 @@
 use crate::call::{Call, Field, Name};
 use crate::dice::Dice;
 use crate::kinds::Kind;
-use crate::rules::{due_length, pack, record_words, Record};
+use crate::rules::{due_length, frame_points, pack, record_words, sound_sheet_set, Record};
 
 /// How large the sheets may be.
 #[derive(Clone, Copy, PartialEq, Eq)]
@@ -37,6 +37,10 @@ pub fn sound_call(dice: &mut Dice, name: Name, scale: Scale) -> Call {
     if name.takes_record() {
         levels_of_run(dice, &mut call);
     }
+    if name.takes_map() {
+        sizes(dice, &mut call);
+        background_sizes(dice, &mut call);
+    }
     let is_file_call = matches!(name, Name::ReadPbm | Name::WritePbm | Name::WritePgm);
     if is_file_call {
         // The levels are known only now, and with them the length of the text; a file's room may be longer.
@@ -49,7 +53,8 @@ pub fn sound_call(dice: &mut Dice, name: Name, scale: Scale) -> Call {
     call
 }
 
-/// Gives the levels, the work buffers and the answer slices of a call the lengths that its other arguments ask for.
+/// Gives the levels, the map, the work buffers and the answer slices of a call the lengths that its other arguments ask
+/// for.
 pub fn lend_due_lengths(call: &mut Call) {
     for field in call.name.fields() {
         if !matches!(
@@ -277,6 +282,46 @@ fn levels_of_run(dice: &mut Dice, call: &mut Call) {
     }
 }
 
+/// A map of sizes up to the cap: any, growing from row to row as perspective has it, one size, or the two at the ends.
+fn sizes(dice: &mut Dice, call: &mut Call) {
+    let (cap, height) = (call.number, call.height);
+    let width = usize::try_from(call.width).expect("frames are small");
+    let (kind, one) = (dice.below(4), dice.between(0, cap));
+    for (place, size) in call.map.iter_mut().enumerate() {
+        let rows_from_the_top = (place / width) as u64 + 1;
+        *size = as_size(match kind {
+            0 => dice.between(0, cap),
+            1 => cap * rows_from_the_top / height,
+            2 => one,
+            _ => dice.pick(&[0, cap]),
+        });
+    }
+}
+
+/// Changes what the map has at background points, where nothing matters: often above the cap.
+pub fn background_sizes(dice: &mut Dice, call: &mut Call) {
+    let set = sound_sheet_set(call).expect("the call is sound");
+    let (kind, above) = (dice.below(4), as_size(call.number + 1));
+    for (point, size) in frame_points(call.width, call.height)
+        .into_iter()
+        .zip(&mut call.map)
+    {
+        if !set.holds(point) {
+            *size = match kind {
+                0 => *size,
+                1 => u16::MAX,
+                2 => dice.pick(&[0, 1, above, u16::MAX]),
+                _ => dice.level(),
+            };
+        }
+    }
+}
+
+/// A number of a sound call as a map's entry.
+pub fn as_size(number: u64) -> u16 {
+    u16::try_from(number).expect("a cap is at most 2,047")
+}
+
 /// A sound raw PBM: any run of white bytes, leading zeros, padding bits as they come.
 fn file(dice: &mut Dice, scale: Scale) -> Vec<u8> {
     let (width, height) = frame(dice, scale);
@@ -311,7 +356,15 @@ pub fn scramble(dice: &mut Dice, call: &mut Call) {
             .for_each(|level| *level = dice.level());
     }
     for buffer in [&mut call.work_a, &mut call.work_b, &mut call.levels_out] {
-        buffer.iter_mut().for_each(|level| *level = dice.level());
+        // Any levels, or such as a run leaves behind.
+        let any = dice.percent(50);
+        buffer.iter_mut().for_each(|level| {
+            *level = if any {
+                dice.level()
+            } else {
+                dice.pick(&[0, 1, 2, u16::MAX])
+            };
+        });
     }
     call.bytes_out
         .iter_mut()

@@ -1,12 +1,11 @@
 -- An entry within the cap is not above it, whatever its pixel; of another the pixel decides.
-use Rattle.basics.proofs.Arithmetic.{row-below, column-below, entry-below}
+use Rattle.basics.proofs.Arithmetic.{row-below, column-below}
 use Rattle.run.proofs.PatchLaws.{row-end}
 use Rattle.sheet.specs.Sheets.{rowBytes}
 use Rattle.maps.proofs.SeenLaws.{entry-within, entry-above}
 use borrow.Author.Needs.{needs}
 use native.Mathlib.Omega.{arith}
-use Prim.Native.Nat.{_+_, _*_, _/_, _%_, _<_}
-use mathlib.Core.Path.{_≡_, sym, _∙_}
+use Prim.Native.Nat.{_/_}
 use Rattle.maps.proofs.is_above.Statement.{statement}
 use Rattle.maps.proofs.is_above.Tie as tie
 

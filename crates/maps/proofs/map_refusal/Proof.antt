@@ -1,12 +1,12 @@
 -- A dilation's refusals stand first; what passes them has a frame in its limits, a sheet and an element.
-use Rattle.run.proofs.Starts.{judged, dilation-taken}
+use Rattle.run.proofs.Starts.{judged}
 use Rattle.run.proofs.RecordLaws.{area-small}
 use Rattle.maps.specs.Maps.{Buffers}
 use Rattle.maps.proofs.Refusing.{refused-start, refused-map, refused-out, refused-size, none-refused}
 use Rattle.maps.proofs.Answers.{input-judged}
 use borrow.Author.Needs.{needs}
 use native.Mathlib.Omega.{arith}
-use mathlib.Core.Path.{_≡_, sym, _∙_}
+use mathlib.Core.Path.{sym, _∙_}
 use Rattle.maps.proofs.map_refusal.Statement.{statement}
 use Rattle.maps.proofs.map_refusal.Tie as tie
 

@@ -1,5 +1,5 @@
 -- The loop's invariant: the rows above are raised.
-use Rattle.run.proofs.PatchLaws.{row-end, frame-room, canvas-after}
+use Rattle.run.proofs.PatchLaws.{row-end, frame-room}
 use Rattle.run.proofs.RecordLaws.{area-small}
 use Rattle.maps.specs.Raising.{Raised}
 use Rattle.maps.proofs.RaisingLaws.{raised-none, raised-turn}

@@ -10,9 +10,11 @@ margin-of-requires : tie.Need-margin-of-requires
 margin-of-requires c κs =
     let entry = c .before .before .before .before .before .before .before .before in
     let args = entry .args in
-    let j = input-judged (args .input) (args .sheet .now) (args .bytes .now) (args .cap) (args .work .now) (entry .pre .0) in
-    (j .element .side-is, dilation-taken (args .input .width) (args .input .height) (args .sheet .now) (args .input .side)
-    (args .bytes .now) (args .cap) (args .work .now) (entry .pre .0) .1)
+    let j = input-judged (args .input) (args .sheet .now) (args .bytes .now) (args .cap) (args .work .now) (entry .pre .0) in (
+      j .element .side-is,
+      dilation-taken (args .input .width) (args .input .height) (args .sheet .now) (args .input .side)
+          (args .bytes .now) (args .cap) (args .work .now) (entry .pre .0) .1,
+    )
 
 cast-most : tie.Need-cast-most
 cast-most c =
@@ -34,9 +36,11 @@ raise-frame-requires : tie.Need-raise-frame-requires
 raise-frame-requires c κs =
     let started = c .before .before .before .before in
     let entry = started .before .before .before .before .before .before in
-    let args = entry .args in
-    (start-canvas (args .input) (args .sheet .now) (args .bytes .now) (args .cap) (args .work .now) (entry .pre .0)
-    (started .start-dilation .ensures) (c .before .margin-of .ensures .0), entry .pre .1)
+    let args = entry .args in (
+      start-canvas (args .input) (args .sheet .now) (args .bytes .now) (args .cap) (args .work .now) (entry .pre .0)
+          (started .start-dilation .ensures) (c .before .margin-of .ensures .0),
+      entry .pre .1,
+    )
 
 returns : tie.Need-returns
 returns c =
