@@ -137,7 +137,7 @@ fn greater(a: u16, b: u16) -> u16
 }
 
 // The highest of the levels.
-fn highest(levels: &[u16]) -> u16
+pub fn highest(levels: &[u16]) -> u16
     ensures { λ r. ⌜ Highest (now (levels .entry)) (length (now (levels .entry))) r ⌝ }
 {
     let mut most = 0;

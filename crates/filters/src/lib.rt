@@ -2,7 +2,7 @@
 mod answering;
 pub mod back;
 mod judging;
-mod levels;
+pub mod levels;
 
 ghost use Rattle.filters.specs.Filters.{Opens, Closes, OpeningLevels, ClosingLevels};
 

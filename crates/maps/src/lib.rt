@@ -30,7 +30,7 @@ fn is_above(input: Input, sheet: &[u8], map: &[u16], cap: usize, k: usize) -> bo
 }
 
 // Whether one of them is.
-fn any_above(input: Input, sheet: &[u8], map: &[u16], cap: usize) -> bool
+fn any_seen(input: Input, sheet: &[u8], map: &[u16], cap: usize) -> bool
     requires { ⌜ Fits input (now sheet) (now map) ⌝ }
     ensures { λ r. ⌜ r ≡ anyAbove cap (sizesSeen input (now (sheet .entry)) (now (map .entry))) ⌝ }
 {
@@ -42,6 +42,18 @@ fn any_above(input: Input, sheet: &[u8], map: &[u16], cap: usize) -> bool
         k += 1;
     }
     false
+}
+
+// The same; where no entry at all is above the cap, which is soon seen, no pixel is looked at.
+fn any_above(input: Input, sheet: &[u8], map: &[u16], cap: usize) -> bool
+    requires { ⌜ Fits input (now sheet) (now map) ⌝ }
+    ensures { λ r. ⌜ r ≡ anyAbove cap (sizesSeen input (now (sheet .entry)) (now (map .entry))) ⌝ }
+{
+    let highest = filters::levels::highest(map);
+    if highest as usize <= cap {
+        return false;
+    }
+    any_seen(input, sheet, map, cap)
 }
 
 // Refusals 2 to 11, and 8 for a size above the cap, or 0.
