@@ -12,7 +12,7 @@ use Rattle.grid.specs.Starred.{Drawing, drawn, IsPixel, pair, oneRow}
 abbrev pub dilatedBySizes : PointSet → (Point → ℕ) → PointSet → PointSet
 dilatedBySizes A S K x = (a : Point) × A a × translate (fold K (S a)) a x
 
--- sizes given for the points of a frame, by row and column
+-- sizes given by row and column, for the points of a frame, where neither is negative
 abbrev pub sizesOf : (ℕ → ℕ → ℕ) → Point → ℕ
 sizesOf size a = size (natAbs (a .row)) (natAbs (a .col))
 

@@ -8,6 +8,7 @@ use mathlib.Core.Bool.{Bool, true, false, cond}
 use mathlib.Core.List.{List}
 use lib.ListN.{length, getD, replicate}
 use borrow.Author.Tests.{eq-eqb, le-ltb}
+use Rattle.basics.specs.Limits.{highestCap}
 use Rattle.basics.specs.Refusals.{first}
 use Rattle.basics.proofs.RefusalLaws.{accepts}
 use Rattle.grid.specs.Points.{Point}
@@ -53,6 +54,9 @@ module _ (input : Input) (sheet bytes : List ℕ) (cap : ℕ) (lent : List ℕ)
   pub input-judged : Judged (input .width) (input .height) sheet (input .side) bytes
   input-judged = judged (input .width) (input .height) sheet (input .side) bytes
       (dilation-taken (input .width) (input .height) sheet (input .side) bytes cap lent z .0)
+
+  pub cap-small : cap ≤ highestCap
+  cap-small = dilation-taken (input .width) (input .height) sheet (input .side) bytes cap lent z .1
 
   pub is-started : IsStart r (startLevels r sheet)
   is-started = is-start (dilation (input .width) (input .height) sheet (input .side) bytes cap lent (accepts _ z refl))

@@ -1,16 +1,18 @@
--- The sizes that are looked at, entry by entry: what a loop over the map learns, and that none is above the cap exactly where no
+-- The sizes that are looked at, one by one: what a loop over the map learns, and that none is above the cap exactly where no
 -- foreground point has a larger size.
 use Prim.Native.Nat.{ℕ, _+_, _*_, _/_, _%_, _≤_, _<_}
+use native.Mathlib.Nat.{le-of-eq, zero-mul, suc-mul}
+use native.Mathlib.Numerals.{add-one}
 use native.Mathlib.Omega.{arith}
 use mathlib.Core.Path.{_≡_, sym, ap, _∙_}
 use mathlib.Core.Bool.{Bool, true, false, cond}
 use mathlib.Core.List.{List}
 use lib.Dec.{eqb, ltb}
 use lib.ListN.{length, getD}
-use borrow.Author.Tests.{lt-ltb, le-ltb, eq-eqb}
+use borrow.Author.Tests.{lt-ltb, le-ltb, eq-eqb, ltb-true, ltb-false}
 use Rattle.basics.specs.Bounds.{anyAbove}
 use Rattle.basics.proofs.Arithmetic.{entry-of, entry-below}
-use Rattle.basics.proofs.BoundLaws.{all-within, none-above}
+use Rattle.basics.proofs.BoundLaws.{above-found, above-passed, above-end, all-within, none-above}
 use Rattle.basics.proofs.TableLaws.{length-raster, getD-raster, getD-table}
 use Rattle.basics.specs.Tables.{raster}
 use Rattle.grid.specs.Points.{Point, at}
@@ -18,6 +20,7 @@ use Rattle.sheet.specs.Sheets.{pixel}
 use Rattle.filters.specs.declared.Input.{Input}
 use Rattle.filters.specs.Filters.{frameSize, foregroundOf}
 use Rattle.maps.specs.Maps.{sizeIn, sizeOf, sizesSeen}
+use Rattle.maps.specs.Raising.{aboveFrom}
 
 module _ (input : Input) (sheet map : List ℕ) where
   abbrev seen : ℕ → ℕ → ℕ
@@ -41,29 +44,59 @@ module _ (input : Input) (sheet map : List ℕ) where
   unfolding sizesSeen
   seen-in row col a b = getD-raster (input .width) (input .height) seen row col 0 a b
 
-  -- an entry against the cap: within it, whatever the pixel; above it, by the pixel
-  module _ (cap k : ℕ) (l : k < frameSize input) where
+  -- a size against the cap: within it, whatever the pixel; above it, by the pixel
+  module _ (cap row col : ℕ) (a : row < input .height) (b : col < input .width) where
     test : Bool → ℕ → Bool
     test t size = ltb cap (cond t size 0)
 
-    pub entry-within : getD map k 0 ≤ cap → false ≡ ltb cap (getD (sizesSeen input sheet map) k 0)
+    abbrev size : ℕ
+    size = sizeIn (input .width) map row col
+
+    pub entry-within : size ≤ cap → false ≡ ltb cap (getD (sizesSeen input sheet map) (row * input .width + col) 0)
     unfolding test
-    entry-within h = sym (ap (ltb cap) (seen-at k l)
-        ∙ go (eqb (pixel (input .width) sheet (k / input .width) (k % input .width)) 1))
+    entry-within h = sym (ap (ltb cap) (seen-in row col a b) ∙ go (eqb (pixel (input .width) sheet row col) 1))
       where
-        go : (t : Bool) → test t (getD map k 0) ≡ false
-        go true = le-ltb cap (getD map k 0) h
+        go : (t : Bool) → test t size ≡ false
+        go true = le-ltb cap size h
         go false = le-ltb cap 0 (omega arith)
 
-    pub entry-above : (number : ℕ) → number ≡ pixel (input .width) sheet (k / input .width) (k % input .width) → cap < getD map k 0
-        → eqb number 1 ≡ ltb cap (getD (sizesSeen input sheet map) k 0)
+    pub entry-above : (number : ℕ) → number ≡ pixel (input .width) sheet row col → cap < size
+        → eqb number 1 ≡ ltb cap (getD (sizesSeen input sheet map) (row * input .width + col) 0)
     unfolding test
     entry-above number e h = ap (λ n. eqb n 1) e
-        ∙ sym (ap (ltb cap) (seen-at k l) ∙ go (eqb (pixel (input .width) sheet (k / input .width) (k % input .width)) 1))
+        ∙ sym (ap (ltb cap) (seen-in row col a b) ∙ go (eqb (pixel (input .width) sheet row col) 1))
       where
-        go : (t : Bool) → test t (getD map k 0) ≡ t
-        go true = lt-ltb cap (getD map k 0) h
+        go : (t : Bool) → test t size ≡ t
+        go true = lt-ltb cap size h
         go false = le-ltb cap 0 (omega arith)
+
+  -- whether one is above from a place on, as the loops go: column by column, row by row
+  module _ (cap : ℕ) where
+    abbrev left : ℕ → Bool
+    left = aboveFrom cap (sizesSeen input sheet map)
+
+    pub left-first : left (0 * input .width) ≡ anyAbove cap (sizesSeen input sheet map)
+    left-first = ap left (zero-mul (input .width))
+
+    pub left-next : (row : ℕ) → left ((row + 1) * input .width) ≡ left (row * input .width + input .width)
+    left-next row = ap left (ap (λ n. n * input .width) (add-one row) ∙ suc-mul row (input .width))
+
+    pub left-end : left (input .height * input .width) ≡ false
+    left-end = above-end cap (sizesSeen input sheet map) (input .height * input .width) (le-of-eq seen-length)
+
+    module _ (row col : ℕ) (a : row < input .height) (b : col < input .width) where
+      abbrev place : ℕ
+      place = row * input .width + col
+
+      in-list : place < length (sizesSeen input sheet map)
+      in-list = rw seen-length (entry-below (input .width) (input .height) row col a b)
+
+      pub left-found : ltb cap (getD (sizesSeen input sheet map) place 0) ≡ true → left place ≡ true
+      left-found t = above-found cap (sizesSeen input sheet map) place in-list (ltb-true cap _ t)
+
+      pub left-passed : ltb cap (getD (sizesSeen input sheet map) place 0) ≡ false → left (row * input .width + (col + 1)) ≡ left place
+      left-passed t = ap left (let e : row * input .width + (col + 1) ≡ place + 1 = omega arith in e)
+          ∙ sym (above-passed cap (sizesSeen input sheet map) place in-list (ltb-false cap _ t))
 
   -- NONE ABOVE THE CAP
   pub sizes-small : (cap : ℕ) → anyAbove cap (sizesSeen input sheet map) ≡ false → (a : Point) → foregroundOf input sheet a

@@ -1,10 +1,11 @@
 -- How the levels start: as a dilation's, with R + 1 - S(a) in the place of the 1 at each foreground point a.
 use Prim.Native.Nat.{ℕ, suc, _+_, _-_, _*_, _≤_, _<_}
 use mathlib.Core.Path.{_≡_}
-use mathlib.Core.Bool.{false, cond}
+use mathlib.Core.Bool.{Bool, false, cond}
 use mathlib.Core.List.{List}
 use lib.Dec.{eqb}
-use lib.ListN.{length, getD}
+use lib.ListN.{length, getD, drop}
+use Rattle.basics.specs.Bounds.{anyAbove}
 use Rattle.basics.specs.Limits.{longestSide}
 use Rattle.sheet.specs.Sheets.{rowBytes}
 use Rattle.run.specs.declared.Record.{Record}
@@ -41,6 +42,10 @@ pub record Fits (input : Input) (sheet map : List ℕ) : Type 0 where
   pub high : input .height ≤ longestSide
   pub sheet-size : length sheet ≡ sheetSize input
   pub map-size : length map ≡ frameSize input
+
+-- some size from a place on is above the cap
+abbrev pub aboveFrom : ℕ → List ℕ → ℕ → Bool
+aboveFrom cap sizes place = anyAbove cap (drop place sizes)
 
 -- a run that a start gave, with room for its levels and for the sheet that it holds at its cap
 pub record Finishes (r : Record) (levels out : List ℕ) : Type 0 where

@@ -3,8 +3,8 @@
 use filters::Input;
 use run::Record;
 ghost use mathlib.Core.Path.{_≡_};
-ghost use mathlib.Core.Bool.{false};
-ghost use Prim.Native.Nat.{_+_, _-_, _*_, _/_, _%_, _<_, _≤_};
+ghost use mathlib.Core.Bool.{false, _||_};
+ghost use Prim.Native.Nat.{_+_, _*_, _<_, _≤_};
 ghost use lib.Dec.{ltb};
 ghost use lib.ListN.{length, getD, replicate};
 ghost use Rattle.basics.specs.Bounds.{anyAbove};
@@ -15,36 +15,54 @@ ghost use Rattle.run.specs.Pictures.{thresholded};
 ghost use Rattle.run.specs.Demand2.{finished};
 ghost use Rattle.filters.specs.Filters.{frameSize};
 ghost use Rattle.maps.specs.Maps.{sizesSeen, mapRefusals, DilatesByMap};
-ghost use Rattle.maps.specs.Raising.{raised, Raised, StartsByMap, Fits, Finishes};
+ghost use Rattle.maps.specs.Raising.{raised, Raised, StartsByMap, Fits, aboveFrom, Finishes};
 
-// Whether entry `k` of the map is above the cap, and stands at a foreground point.
-fn is_above(input: Input, sheet: &[u8], map: &[u16], cap: usize, k: usize) -> bool
-    requires { ⌜ Fits input (now sheet) (now map) × (k < length (now map)) ⌝ }
-    ensures { λ r. ⌜ r ≡ ltb cap (getD (sizesSeen input (now (sheet .entry)) (now (map .entry))) k 0) ⌝ }
+// Whether the map has a size above the cap at a row and a column, and a foreground point stands there.
+fn is_above(input: Input, sheet: &[u8], map: &[u16], cap: usize, row: usize, col: usize) -> bool
+    requires { ⌜ Fits input (now sheet) (now map) × ((row < input .height) × (col < input .width)) ⌝ }
+    ensures { λ r. ⌜ r ≡ ltb cap (getD (sizesSeen input (now (sheet .entry)) (now (map .entry))) (row * input .width + col) 0) ⌝ }
 {
-    let size = map[k];
-    if size as usize <= cap {
+    let place = row * input.width + col;
+    if map[place] as usize <= cap {
         return false;
     }
-    sheet::pixel_at(input.width, sheet, k / input.width, k % input.width) == 1
+    sheet::pixel_at(input.width, sheet, row, col) == 1
 }
 
-// Whether one of them is.
-fn any_seen(input: Input, sheet: &[u8], map: &[u16], cap: usize) -> bool
-    requires { ⌜ Fits input (now sheet) (now map) ⌝ }
-    ensures { λ r. ⌜ r ≡ anyAbove cap (sizesSeen input (now (sheet .entry)) (now (map .entry))) ⌝ }
+// Whether it has one in a row.
+fn any_in_row(input: Input, sheet: &[u8], map: &[u16], cap: usize, row: usize) -> bool
+    requires { ⌜ Fits input (now sheet) (now map) × (row < input .height) ⌝ }
+    ensures { λ r. ⌜ r || aboveFrom cap (sizesSeen input (now (sheet .entry)) (now (map .entry))) (row * input .width + input .width)
+        ≡ aboveFrom cap (sizesSeen input (now (sheet .entry)) (now (map .entry))) (row * input .width) ⌝ }
 {
-    let mut k = 0;
-    while k < map.len() {
-        if is_above(input, sheet, map, cap, k) {
+    let width = input.width;
+    let mut col = 0;
+    while col < width {
+        if is_above(input, sheet, map, cap, row, col) {
             return true;
         }
-        k += 1;
+        col += 1;
     }
     false
 }
 
-// The same; where no entry at all is above the cap, which is soon seen, no pixel is looked at.
+// Whether it has one in any row.
+fn any_seen(input: Input, sheet: &[u8], map: &[u16], cap: usize) -> bool
+    requires { ⌜ Fits input (now sheet) (now map) ⌝ }
+    ensures { λ r. ⌜ r ≡ anyAbove cap (sizesSeen input (now (sheet .entry)) (now (map .entry))) ⌝ }
+{
+    let height = input.height;
+    let mut row = 0;
+    while row < height {
+        if any_in_row(input, sheet, map, cap, row) {
+            return true;
+        }
+        row += 1;
+    }
+    false
+}
+
+// The same; where no entry at all is above the cap, which is sooner seen, no pixel is looked at.
 fn any_above(input: Input, sheet: &[u8], map: &[u16], cap: usize) -> bool
     requires { ⌜ Fits input (now sheet) (now map) ⌝ }
     ensures { λ r. ⌜ r ≡ anyAbove cap (sizesSeen input (now (sheet .entry)) (now (map .entry))) ⌝ }
@@ -95,7 +113,8 @@ fn map_refusal(
     0
 }
 
-// The level that a point with a size starts with, where a dilation's would be 1.
+// The level that a point with a size starts with, where a dilation's is 1; another level stays. No accepted map has a size above
+// `most` there.
 fn raised_level(level: u16, size: u16, most: u16) -> u16
     ensures { λ r. ⌜ r ≡ raised most size level ⌝ }
 {

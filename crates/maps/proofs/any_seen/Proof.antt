@@ -1,60 +1,59 @@
--- The sizes that are left have one above the cap exactly where all the sizes have.
-use Rattle.basics.proofs.BoundLaws.{above-found, above-passed, above-end}
+-- From each row on, a size is above the cap exactly where one is at all.
 use Rattle.basics.specs.Bounds.{anyAbove}
 use Rattle.maps.specs.Maps.{sizesSeen}
-use Rattle.maps.proofs.SeenLaws.{seen-length}
+use Rattle.maps.specs.Raising.{aboveFrom}
+use Rattle.maps.proofs.SeenLaws.{left-first, left-next, left-end}
 use borrow.Author.Needs.{needs}
-use borrow.Author.Tests.{ltb-true, ltb-false}
 use native.Mathlib.Omega.{arith}
-use Prim.Native.Nat.{_-_, _≤_}
-use mathlib.Core.Path.{_≡_, refl, sym, _∙_}
-use lib.ListN.{length, drop}
+use Prim.Native.Nat.{_+_, _*_, _-_, _≤_}
+use mathlib.Core.Path.{_≡_, sym, ap, _∙_}
+use mathlib.Core.Bool.{_||_}
 use Rattle.maps.proofs.any_seen.Statement.{statement}
 use Rattle.maps.proofs.any_seen.Tie as tie
 
 abbrev Inv-loop : tie.InvT-loop
-Inv-loop input sheet map cap k₀ k = (k ≤ length map) ×
-    (anyAbove cap (drop k (sizesSeen input sheet map)) ≡ anyAbove cap (sizesSeen input sheet map))
+Inv-loop input sheet map cap height row₀ row = (row ≤ height) ×
+    (aboveFrom cap (sizesSeen input sheet map) (row * input .width) ≡ anyAbove cap (sizesSeen input sheet map))
 
 abbrev μ-loop : tie.MeasureT-loop
-μ-loop input sheet map cap k₀ k = length map - k
+μ-loop input sheet map cap height row₀ row = height - row
 
 loop-holds : tie.Need-loop-holds Inv-loop μ-loop
-loop-holds c = (omega arith, refl)
+loop-holds c =
+    let args = c .before .before .args in (omega arith, left-first (args .input) (args .sheet .now) (args .map .now) (args .cap))
+
+any-in-row-requires : tie.Need-any-in-row-requires Inv-loop μ-loop
+any-in-row-requires c κs = (c .before .before .before .before .pre, c .loop-test .taken)
 
 returns : tie.Need-returns Inv-loop μ-loop
 returns c =
-    let entry = c .before .before .before .before .before .before in
-    let args = entry .args in
+    let args = c .before .before .before .before .before .before .args in
     let loop = c .before .before .before .loop in
-    let e = seen-length (args .input) (args .sheet .now) (args .map .now) in
-    let f = entry .pre .map-size in
-    sym (sym (loop .inv .1) ∙ above-found (args .cap) (sizesSeen (args .input) (args .sheet .now) (args .map .now)) (loop .k)
-    (omega arith) (ltb-true (args .cap) _ (sym (c .before .is-above .ensures) ∙ c .if1 .taken)))
+    let rest = aboveFrom (args .cap) (sizesSeen (args .input) (args .sheet .now) (args .map .now))
+    (loop .row * args .input .width + args .input .width) in
+    sym (ap (λ t. t || rest) (c .if1 .taken)) ∙ c .before .any-in-row .ensures ∙ loop .inv .1
 
 loop-again : tie.Need-loop-again Inv-loop μ-loop
 loop-again c =
-    let entry = c .before .before .before .before .before .before in
-    let args = entry .args in
+    let args = c .before .before .before .before .before .before .args in
     let loop = c .before .before .before .loop in
-    let e = seen-length (args .input) (args .sheet .now) (args .map .now) in
-    let f = entry .pre .map-size in (
+    let rest = aboveFrom (args .cap) (sizesSeen (args .input) (args .sheet .now) (args .map .now))
+    (loop .row * args .input .width + args .input .width) in (
       omega arith,
-      sym (above-passed (args .cap) (sizesSeen (args .input) (args .sheet .now) (args .map .now)) (loop .k)
-          (omega arith) (ltb-false (args .cap) _ (sym (c .before .is-above .ensures) ∙ c .if1 .left))) ∙ loop .inv .1,
+      left-next (args .input) (args .sheet .now) (args .map .now) (args .cap) (loop .row)
+          ∙ sym (ap (λ t. t || rest) (c .if1 .left)) ∙ c .before .any-in-row .ensures ∙ loop .inv .1,
     )
 
 returns-2 : tie.Need-returns-2 Inv-loop μ-loop
 returns-2 c =
-    let entry = c .before .before .before .before in
-    let args = entry .args in
+    let args = c .before .before .before .before .args in
     let loop = c .before .loop in
-    let e = seen-length (args .input) (args .sheet .now) (args .map .now) in
-    let f = entry .pre .map-size in
-    sym (sym (loop .inv .1) ∙ above-end (args .cap) (sizesSeen (args .input) (args .sheet .now) (args .map .now)) (loop .k)
-    (omega arith))
+    let e : args .input .height ≡ loop .row = let l = loop .inv .0 in let t = c .loop-test .left in omega arith in
+    sym (left-end (args .input) (args .sheet .now) (args .map .now) (args .cap))
+    ∙ ap (λ row. aboveFrom (args .cap) (sizesSeen (args .input) (args .sheet .now) (args .map .now)) (row * args .input .width)) e
+    ∙ loop .inv .1
 
 pub any-seen-spec : {M : Type 1} → statement M
 any-seen-spec =
-    tie.close (tie.spec Inv-loop μ-loop loop-holds (λ c κs. search needs) returns (λ c. search needs) (λ c. search needs)
-    loop-again returns-2)
+    tie.close (tie.spec Inv-loop μ-loop loop-holds any-in-row-requires returns (λ c. search needs) (λ c. search needs) loop-again
+    returns-2)

@@ -1,6 +1,5 @@
 -- What is not refused starts; its canvas holds the frame, so that its levels may be raised.
-use Rattle.run.proofs.Starts.{dilation-taken}
-use Rattle.maps.proofs.Answers.{input-judged, start-canvas, start-raised}
+use Rattle.maps.proofs.Answers.{input-judged, cap-small, start-canvas, start-raised}
 use borrow.Author.Needs.{needs}
 use native.Mathlib.Omega.{arith}
 use Rattle.maps.proofs.start_by_map.Statement.{statement}
@@ -9,27 +8,23 @@ use Rattle.maps.proofs.start_by_map.Tie as tie
 margin-of-requires : tie.Need-margin-of-requires
 margin-of-requires c κs =
     let entry = c .before .before .before .before .before .before .before .before in
-    let args = entry .args in
-    let j = input-judged (args .input) (args .sheet .now) (args .bytes .now) (args .cap) (args .work .now) (entry .pre .0) in (
-      j .element .side-is,
-      dilation-taken (args .input .width) (args .input .height) (args .sheet .now) (args .input .side)
-          (args .bytes .now) (args .cap) (args .work .now) (entry .pre .0) .1,
+    let args = entry .args in (
+      input-judged (args .input) (args .sheet .now) (args .bytes .now) (args .cap) (args .work .now) (entry .pre .0) .element .side-is,
+      cap-small (args .input) (args .sheet .now) (args .bytes .now) (args .cap) (args .work .now) (entry .pre .0),
     )
 
 cast-most : tie.Need-cast-most
 cast-most c =
     let entry = c .before .before .before .before .before .before .before .before .before in
     let args = entry .args in
-    let t = dilation-taken (args .input .width) (args .input .height) (args .sheet .now) (args .input .side)
-    (args .bytes .now) (args .cap) (args .work .now) (entry .pre .0) .1 in
+    let l = cap-small (args .input) (args .sheet .now) (args .bytes .now) (args .cap) (args .work .now) (entry .pre .0) in
     search needs
 
 add-most : tie.Need-add-most
 add-most c =
     let entry = c .before .before .before .before .before .before .before .before .before in
     let args = entry .args in
-    let t = dilation-taken (args .input .width) (args .input .height) (args .sheet .now) (args .input .side)
-    (args .bytes .now) (args .cap) (args .work .now) (entry .pre .0) .1 in
+    let l = cap-small (args .input) (args .sheet .now) (args .bytes .now) (args .cap) (args .work .now) (entry .pre .0) in
     search needs
 
 raise-frame-requires : tie.Need-raise-frame-requires
