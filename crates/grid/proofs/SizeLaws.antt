@@ -1,16 +1,15 @@
 -- Laws of sets dilated by sizes: one size for all, the same sets and sizes, and the worked example by a computed test.
 -- Each is a regrouping of who is moved by what.
 use mathlib.Core.Path.{_≡_, sym, _∙_, ap, ap₂, subst}
-use mathlib.Core.Logic.{_↔_}
 use Prim.Native.Nat.{ℕ, _<_}
 use native.Mathlib.Decide.{ℕ-discrete, decLt}
 use lib.IntN.{ℤ, pos, negsuc, pos-ne-negsuc}
-use Rattle.grid.specs.Points.{Point, at, _⊕_, neg}
+use Rattle.grid.specs.Points.{Point, at, _⊕_}
 use Rattle.grid.specs.Sets.{PointSet, fold, _≈_}
 use Rattle.grid.specs.Figures.{figure, element}
 use Rattle.grid.specs.Starred.{drawn, IsPixel, pair}
 use Rattle.grid.specs.Sizes.{dilatedBySizes, sizesOf, OneSizeDilates, twoPoints, theirSizes, theirPoints, TwoSizes}
-use Rattle.grid.proofs.PointLaws.{⊕-assoc, ⊕-comm, ⊕-cancel, ⊖-cancel, pos-inj, negsuc-inj}
+use Rattle.grid.proofs.PointLaws.{⊕-comm, pos-inj, negsuc-inj}
 use Rattle.grid.proofs.SameSets.{fold-parts}
 use Rattle.grid.proofs.Searches.{Yes, by-test, Decided, Searched, all-below, any-below, both-dec, same-dec, implies-dec}
 use Rattle.grid.proofs.Searches.{origin-searched, dilate-searched, fold-searched, moved-searched}
@@ -30,22 +29,6 @@ by-sizes-same {A} {B} {K} {L} S T same sizes alike = (
   (λ x (a, ha, (b, hb, e)). (a, same .0 a ha, (b, fold-parts K L (alike .0) (T a) b (subst (λ n. fold K n b) (sizes a ha) hb), e))),
   (λ x (a, ha, (b, hb, e)). let h = same .1 a ha in
       (a, h, (b, subst (λ n. fold K n b) (sym (sizes a h)) (fold-parts L K (alike .1) (T a) b hb), e))),
-)
-
--- set, sizes and point moved together
-pub by-sizes-moved : (A K : PointSet) (S : Point → ℕ) (c x : Point)
-    → dilatedBySizes (λ p. A (p ⊕ c)) (λ p. S (p ⊕ c)) K x ↔ dilatedBySizes A S K (x ⊕ c)
-by-sizes-moved A K S c x = (
-  (λ (a, ha, (b, hb, e)). (a ⊕ c, ha, (b, hb, ap (λ z. z ⊕ c) e ∙ ⊕-assoc b a c))),
-  (λ (a, ha, (b, hb, e)). let same = sym (⊖-cancel a c) in (
-    a ⊕ neg c,
-    subst A same ha,
-    (
-      b,
-      subst (λ p. fold K (S p) b) same hb,
-      sym (⊕-cancel x c) ∙ ap (λ z. z ⊕ neg c) e ∙ ⊕-assoc b a (neg c),
-    ),
-  )),
 )
 
 -- the worked example, computed
