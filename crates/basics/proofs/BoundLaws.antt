@@ -25,6 +25,11 @@ module _ (limit : ℕ) (entries : List ℕ) (i : ℕ) where
   next : i < length entries → drop i entries ≡ getD entries i 0 ∷ drop (i + 1) entries
   next l = rw (add-one, drop-cons entries i 0)
 
+  pub above-next : i < length entries
+      → anyAbove limit (drop i entries) ≡ ltb limit (getD entries i 0) || anyAbove limit (drop (i + 1) entries)
+  unfolding anyAbove
+  above-next l = rw (next l)
+
   pub above-found : i < length entries → limit < getD entries i 0 → anyAbove limit (drop i entries) ≡ true
   unfolding anyAbove
   above-found l h = rw (next l, lt-ltb limit (getD entries i 0) h)

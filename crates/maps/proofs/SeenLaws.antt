@@ -4,15 +4,15 @@ use Prim.Native.Nat.{ℕ, _+_, _*_, _/_, _%_, _≤_, _<_}
 use native.Mathlib.Nat.{le-of-eq, zero-mul, suc-mul}
 use native.Mathlib.Numerals.{add-one}
 use native.Mathlib.Omega.{arith}
-use mathlib.Core.Path.{_≡_, sym, ap, _∙_}
-use mathlib.Core.Bool.{Bool, true, false, cond}
+use mathlib.Core.Path.{_≡_, refl, sym, ap, _∙_}
+use mathlib.Core.Bool.{Bool, true, false, cond, _&&_, _||_}
 use mathlib.Core.List.{List}
 use lib.Dec.{eqb, ltb}
 use lib.ListN.{length, getD}
-use borrow.Author.Tests.{lt-ltb, le-ltb, eq-eqb, ltb-true, ltb-false}
+use borrow.Author.Tests.{le-ltb, eq-eqb}
 use Rattle.basics.specs.Bounds.{anyAbove}
 use Rattle.basics.proofs.Arithmetic.{entry-of, entry-below}
-use Rattle.basics.proofs.BoundLaws.{above-found, above-passed, above-end, all-within, none-above}
+use Rattle.basics.proofs.BoundLaws.{above-next, above-end, all-within, none-above}
 use Rattle.basics.proofs.TableLaws.{length-raster, getD-raster, getD-table}
 use Rattle.basics.specs.Tables.{raster}
 use Rattle.grid.specs.Points.{Point, at}
@@ -44,31 +44,17 @@ module _ (input : Input) (sheet map : List ℕ) where
   unfolding sizesSeen
   seen-in row col a b = getD-raster (input .width) (input .height) seen row col 0 a b
 
-  -- a size against the cap: within it, whatever the pixel; above it, by the pixel
-  module _ (cap row col : ℕ) (a : row < input .height) (b : col < input .width) where
-    test : Bool → ℕ → Bool
-    test t size = ltb cap (cond t size 0)
-
-    abbrev size : ℕ
-    size = sizeIn (input .width) map row col
-
-    pub entry-within : size ≤ cap → false ≡ ltb cap (getD (sizesSeen input sheet map) (row * input .width + col) 0)
-    unfolding test
-    entry-within h = sym (ap (ltb cap) (seen-in row col a b) ∙ go (eqb (pixel (input .width) sheet row col) 1))
-      where
-        go : (t : Bool) → test t size ≡ false
-        go true = le-ltb cap size h
-        go false = le-ltb cap 0 (omega arith)
-
-    pub entry-above : (number : ℕ) → number ≡ pixel (input .width) sheet row col → cap < size
-        → eqb number 1 ≡ ltb cap (getD (sizesSeen input sheet map) (row * input .width + col) 0)
-    unfolding test
-    entry-above number e h = ap (λ n. eqb n 1) e
-        ∙ sym (ap (ltb cap) (seen-in row col a b) ∙ go (eqb (pixel (input .width) sheet row col) 1))
-      where
-        go : (t : Bool) → test t size ≡ t
-        go true = lt-ltb cap size h
-        go false = le-ltb cap 0 (omega arith)
+  -- a size above the cap counts where the pixel is 1
+  pub seen-above : (cap row col number : ℕ) → row < input .height → col < input .width → number ≡ pixel (input .width) sheet row col
+      → eqb number 1 && ltb cap (sizeIn (input .width) map row col)
+      ≡ ltb cap (getD (sizesSeen input sheet map) (row * input .width + col) 0)
+  seen-above cap row col number a b e =
+      ap (λ n. eqb n 1 && ltb cap (sizeIn (input .width) map row col)) e
+      ∙ sym (ap (ltb cap) (seen-in row col a b) ∙ go (eqb (pixel (input .width) sheet row col) 1))
+    where
+      go : (t : Bool) → ltb cap (cond t (sizeIn (input .width) map row col) 0) ≡ t && ltb cap (sizeIn (input .width) map row col)
+      go true = refl
+      go false = le-ltb cap 0 (omega arith)
 
   -- whether one is above from a place on, as the loops go: column by column, row by row
   module _ (cap : ℕ) where
@@ -91,12 +77,10 @@ module _ (input : Input) (sheet map : List ℕ) where
       in-list : place < length (sizesSeen input sheet map)
       in-list = rw seen-length (entry-below (input .width) (input .height) row col a b)
 
-      pub left-found : ltb cap (getD (sizesSeen input sheet map) place 0) ≡ true → left place ≡ true
-      left-found t = above-found cap (sizesSeen input sheet map) place in-list (ltb-true cap _ t)
-
-      pub left-passed : ltb cap (getD (sizesSeen input sheet map) place 0) ≡ false → left (row * input .width + (col + 1)) ≡ left place
-      left-passed t = ap left (let e : row * input .width + (col + 1) ≡ place + 1 = omega arith in e)
-          ∙ sym (above-passed cap (sizesSeen input sheet map) place in-list (ltb-false cap _ t))
+      pub left-here : left place ≡ ltb cap (getD (sizesSeen input sheet map) place 0) || left (row * input .width + (col + 1))
+      left-here = above-next cap (sizesSeen input sheet map) place in-list
+          ∙ ap (λ k. ltb cap (getD (sizesSeen input sheet map) place 0) || left k)
+          (let e : place + 1 ≡ row * input .width + (col + 1) = omega arith in e)
 
   -- NONE ABOVE THE CAP
   pub sizes-small : (cap : ℕ) → anyAbove cap (sizesSeen input sheet map) ≡ false → (a : Point) → foregroundOf input sheet a

@@ -23,27 +23,24 @@ fn is_above(input: Input, sheet: &[u8], map: &[u16], cap: usize, row: usize, col
     ensures { λ r. ⌜ r ≡ ltb cap (getD (sizesSeen input (now (sheet .entry)) (now (map .entry))) (row * input .width + col) 0) ⌝ }
 {
     let place = row * input.width + col;
-    if map[place] as usize <= cap {
-        return false;
-    }
-    sheet::pixel_at(input.width, sheet, row, col) == 1
+    let pixel = sheet::pixel_at(input.width, sheet, row, col);
+    (pixel == 1) & (cap < map[place] as usize)
 }
 
-// Whether it has one in a row.
+// Whether it has one in a row. Nothing branches on a size or a pixel, which follow no pattern.
 fn any_in_row(input: Input, sheet: &[u8], map: &[u16], cap: usize, row: usize) -> bool
     requires { ⌜ Fits input (now sheet) (now map) × (row < input .height) ⌝ }
     ensures { λ r. ⌜ r || aboveFrom cap (sizesSeen input (now (sheet .entry)) (now (map .entry))) (row * input .width + input .width)
         ≡ aboveFrom cap (sizesSeen input (now (sheet .entry)) (now (map .entry))) (row * input .width) ⌝ }
 {
     let width = input.width;
+    let mut found = false;
     let mut col = 0;
     while col < width {
-        if is_above(input, sheet, map, cap, row, col) {
-            return true;
-        }
+        found = found | is_above(input, sheet, map, cap, row, col);
         col += 1;
     }
-    false
+    found
 }
 
 // Whether it has one in any row.
