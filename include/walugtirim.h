@@ -326,10 +326,10 @@ uint32_t wt_closing_levels(uint64_t width, uint64_t height,
                            uint16_t *out, size_t out_len);
 
 /*
- * Dilates each foreground point by a size of its own, which a map gives, at the cost of one dilation whatever the sizes. The
- * sheet is the union, over the foreground points a, of the element added to itself S(a) times and moved to a, taken on the
- * infinite grid and seen in the frame. Where the map gives one size n everywhere, it is what wt_threshold gives at n of a
- * dilation with the same cap.
+ * Dilates each foreground point by a size of its own, which a map gives, at little more than the cost of one dilation,
+ * whatever the sizes. The sheet is the union, over the foreground points a, of the element added to itself S(a) times and
+ * moved to a, taken on the infinite grid and seen in the frame. Where the map gives one size n everywhere, it is what
+ * wt_threshold gives at n of a dilation with the same cap.
  *
  *   width, height   the frame
  *   sheet           the sheet

@@ -2,7 +2,7 @@
 use Prim.Native.Nat.{ℕ, zero, suc, _+_, _≤_, _<_}
 use native.Mathlib.Numerals.{add-one}
 use native.Mathlib.Omega.{arith}
-use mathlib.Core.Path.{_≡_, refl, sym}
+use mathlib.Core.Path.{_≡_, refl, sym, _∙_}
 use mathlib.Core.Bool.{Bool, true, false, _&&_, _||_, true≢false}
 use mathlib.Core.List.{List, [], _∷_}
 use lib.Dec.{ltb}
@@ -22,22 +22,17 @@ neither true b e = absurd (true≢false e)
 
 -- what is left from a place on: its first entry, and the rest
 module _ (limit : ℕ) (entries : List ℕ) (i : ℕ) where
-  next : i < length entries → drop i entries ≡ getD entries i 0 ∷ drop (i + 1) entries
-  next l = rw (add-one, drop-cons entries i 0)
-
   pub above-next : i < length entries
       → anyAbove limit (drop i entries) ≡ ltb limit (getD entries i 0) || anyAbove limit (drop (i + 1) entries)
   unfolding anyAbove
-  above-next l = rw (next l)
+  above-next l = rw (add-one, drop-cons entries i 0)
 
   pub above-found : i < length entries → limit < getD entries i 0 → anyAbove limit (drop i entries) ≡ true
-  unfolding anyAbove
-  above-found l h = rw (next l, lt-ltb limit (getD entries i 0) h)
+  above-found l h = above-next l ∙ rw (lt-ltb limit (getD entries i 0) h)
 
   pub above-passed : i < length entries → getD entries i 0 ≤ limit
       → anyAbove limit (drop i entries) ≡ anyAbove limit (drop (i + 1) entries)
-  unfolding anyAbove
-  above-passed l h = rw (next l, le-ltb limit (getD entries i 0) h)
+  above-passed l h = above-next l ∙ rw (le-ltb limit (getD entries i 0) h)
 
   pub above-end : length entries ≤ i → anyAbove limit (drop i entries) ≡ false
   unfolding anyAbove

@@ -1,4 +1,4 @@
--- A size above the cap seen-above where the pixel is 1.
+-- A size above the cap counts where the pixel is 1.
 use Rattle.basics.proofs.Arithmetic.{entry-below}
 use Rattle.run.proofs.PatchLaws.{row-end}
 use Rattle.run.proofs.RecordLaws.{area-small}
