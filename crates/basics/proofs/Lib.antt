@@ -2,3 +2,4 @@ pub mod RefusalLaws
 pub mod TableLaws
 pub mod BoundLaws
 pub mod Arithmetic
+pub mod SumLaws

@@ -1,13 +1,15 @@
 -- The first run of a plan: an accepted plan starts it, it is a run that a start gives, and the way back from it holds the set
 -- opened or closed.
-use Prim.Native.Nat.{ℕ, _*_}
+use Prim.Native.Nat.{ℕ, _*_, _≤_, _<_}
 use mathlib.Core.Path.{_≡_, refl, sym, ap, ap₂, _∙_}
 use mathlib.Core.Bool.{Bool, true, false, cond, false≢true}
 use mathlib.Core.List.{List}
-use lib.ListN.{length}
+use lib.ListN.{length, getD}
 use Rattle.basics.specs.Limits.{largestSize}
 use Rattle.basics.specs.Refusals.{first}
 use Rattle.basics.proofs.RefusalLaws.{accepts}
+use Rattle.grid.specs.Points.{Point}
+use Rattle.grid.specs.Sets.{opened}
 use Rattle.scan.proofs.ScanLaws.{rows-length}
 use Rattle.run.specs.declared.Record.{Record}
 use Rattle.run.specs.Records.{areaWidth, areaHeight, areaOf, due, foreign}
@@ -19,14 +21,11 @@ use Rattle.run.proofs.Starts.{judged, erosion-fits, dilation-canvas}
 use Rattle.filters.specs.declared.Input.{Input}
 use Rattle.filters.specs.declared.judging.Plan.{Plan}
 use Rattle.filters.specs.Filters.{foregroundOf, elementOf}
-use Rattle.filters.specs.Plans.{capOf, startRefusals, firstRecord, firstStart, firstLevels, filtered}
-use Rattle.filters.specs.Back.{Ready}
+use Rattle.filters.specs.Plans.{capOf, startRefusals, firstRecord, firstStart, firstLevels, filtered, lastSize}
+use Rattle.filters.specs.Plans.{FindsSize}
+use Rattle.filters.specs.Back.{wayBack, Ready}
 use Rattle.filters.proofs.Refusing.{planOf, cap-within, start-taken, no-margin}
-use Rattle.filters.proofs.WayBack.{HoldsBack, opening-back, closing-back}
-
--- the sizes that the way back may be taken for: those of an opening, or those up to the cap
-abbrev pub lastSize : Plan → ℕ
-lastSize plan = cond (plan .closing) (plan .size) largestSize
+use Rattle.filters.proofs.WayBack.{HoldsBack, opening-back, closing-back, first-small, opened-below}
 
 module _ (input : Input) (sheet bytes lent : List ℕ) where
   abbrev pub Accepts : Plan → Type 0
@@ -138,3 +137,33 @@ module _ (input : Input) (sheet bytes lent : List ℕ) where
           let j = judged (input .width) (input .height) sheet (input .side) bytes
           (start-taken input sheet bytes plan (length lent) z .common) in
           opening-back (input .width) (input .height) sheet (input .side) bytes (j .element) (first-start plan z .taken)
+
+-- the levels of an opening's first run bound its sizes
+module _ (input : Input) (sheet bytes lent : List ℕ) (size : ℕ) (packed : Bool) where
+  abbrev opening : Plan
+  opening = planOf false size packed
+
+  abbrev eroded : List ℕ
+  eroded = firstLevels input sheet bytes opening
+
+  module _ (z : Accepts input sheet bytes lent opening) where
+    pub opening-small : (k : ℕ) → k < length eroded → getD eroded k 0 ≤ largestSize
+    opening-small =
+        let t = start-taken input sheet bytes opening (length lent) z in
+        let j = judged (input .width) (input .height) sheet (input .side) bytes (t .common) in
+        first-small (input .width) (input .height) sheet (input .side) bytes (j .element)
+        (first-start input sheet bytes lent opening z .taken)
+
+    pub opening-below : (most : ℕ) → ((k : ℕ) → k < length eroded → getD eroded k 0 ≤ most) → (j : ℕ) (x : Point)
+        → opened (foregroundOf input sheet) (elementOf input bytes) j x → j < most
+    opening-below =
+        let t = start-taken input sheet bytes opening (length lent) z in
+        let j = judged (input .width) (input .height) sheet (input .side) bytes (t .common) in
+        opened-below (input .width) (input .height) sheet (input .side) bytes (j .element)
+        (first-start input sheet bytes lent opening z .taken)
+
+-- WHAT IS FOUND AT A SIZE
+pub found-back : {r : Record} {levels after : List ℕ} (n : ℕ) → after ≡ wayBack r levels n → FindsSize r levels n after
+found-back {r} {levels} n e input sheet bytes plan run l =
+    let q = e ∙ ap₂ (λ r levels. wayBack r levels n) (run .run-is) (run .levels-are) in
+    rw (run .run-is, q) (first-holds input sheet bytes levels plan (run .started) n l)

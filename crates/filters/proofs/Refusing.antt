@@ -23,9 +23,9 @@ use Rattle.run.proofs.Starts.{judged, canvas-taken}
 use Rattle.filters.specs.declared.Input.{Input}
 use Rattle.filters.specs.declared.judging.Plan.{Plan}
 use Rattle.filters.specs.declared.judging.Lengths.{Lengths}
-use Rattle.filters.specs.Filters.{Buffers, inputRefusals, isCanvasWrong, isWorkWrong, isOutWrong, frameSize, closingSize}
+use Rattle.filters.specs.Filters.{Buffers, inputRefusals, isCanvasWrong, isOutWrong, frameSize, closingSize}
 use Rattle.filters.specs.Filters.{Opens, Closes, OpeningLevels, ClosingLevels}
-use Rattle.filters.specs.Plans.{limitOf, capOf, entriesOf, startRefusals, planRefusals, lengthsOf}
+use Rattle.filters.specs.Plans.{limitOf, capOf, entriesOf, startRefusals, workRefusals, planRefusals, lengthsOf}
 use Rattle.filters.specs.Plans.{SheetAnswered, LevelsAnswered}
 
 -- a plan by its fields
@@ -90,64 +90,76 @@ module _ (input : Input) (sheet bytes : List ℕ) (plan : Plan) where
         work-size = t .2;
       }
 
-  -- and the buffers
-  module _ (lent : Lengths) where
+  -- the work buffers
+  module _ (count second : ℕ) where
     abbrev start : List Refusal
-    start = startRefusals input sheet bytes plan (lent .first)
+    start = startRefusals input sheet bytes plan count
 
     abbrev later : List Refusal
-    later = (10, not (eqb (lent .second) (closingSize input (capOf plan)))) ∷
-        (11, not (eqb (lent .out) (input .height * entriesOf (plan .packed) (input .width)))) ∷ []
+    later = (10, not (eqb second (closingSize input (capOf plan)))) ∷ []
 
-    pub plan-start : {number : ℕ} → number ≢ 0 → number ≡ first start
-        → number ≡ first (planRefusals input sheet bytes plan lent)
-    plan-start n e = judged-first start later n e
+    pub work-start : {number : ℕ} → number ≢ 0 → number ≡ first start
+        → number ≡ first (workRefusals input sheet bytes plan count second)
+    work-start n e = judged-first start later n e
 
     module _ (z : first start ≡ 0) where
-      area : lent .first ≡ closingSize input (capOf plan)
-      area = start-taken (lent .first) z .work-size
+      area : count ≡ closingSize input (capOf plan)
+      area = start-taken count z .work-size
 
-      pub plan-second : lent .second ≢ lent .first → 10 ≡ first (planRefusals input sheet bytes plan lent)
-      plan-second n = judged-next start later tt z
-          (rw (ne-eqb (lent .second) (closingSize input (capOf plan)) (λ e. n (e ∙ sym area))))
+      pub work-second : second ≢ count → 10 ≡ first (workRefusals input sheet bytes plan count second)
+      work-second n = judged-next start later tt z
+          (rw (ne-eqb second (closingSize input (capOf plan)) (λ e. n (e ∙ sym area))))
 
-      module _ (same : lent .second ≡ lent .first) {entries : ℕ} (q : entries ≡ entriesOf (plan .packed) (input .width)) where
-        pub plan-out : lent .out ≢ input .height * entries → 11 ≡ first (planRefusals input sheet bytes plan lent)
-        plan-out n = judged-next start later tt z
-            (rw (
-              ← q,
-              eq-eqb (lent .second) (closingSize input (capOf plan)) (same ∙ area),
-              ne-eqb (lent .out) (input .height * entries) n,
-            ))
+      pub work-fits : second ≡ count → 0 ≡ first (workRefusals input sheet bytes plan count second)
+      work-fits e = judged-next start later tt z (rw (eq-eqb second (closingSize input (capOf plan)) (e ∙ area)))
 
-        pub plan-fits : lent .out ≡ input .height * entries → 0 ≡ first (planRefusals input sheet bytes plan lent)
-        plan-fits e = judged-next start later tt z
-            (rw (
-              ← q,
-              eq-eqb (lent .second) (closingSize input (capOf plan)) (same ∙ area),
-              eq-eqb (lent .out) (input .height * entries) e,
-            ))
+    -- what a call with accepted work buffers has
+    pub record WorkTaken : Type 0 where
+      pub start : first (startRefusals input sheet bytes plan count) ≡ 0
+      pub first-size : count ≡ closingSize input (capOf plan)
+      pub second-size : second ≡ closingSize input (capOf plan)
+
+    pub work-taken : first (workRefusals input sheet bytes plan count second) ≡ 0 → WorkTaken
+    work-taken e =
+        let p = first-both start later tt e in
+        let q = passed 10 (not (eqb second (closingSize input (capOf plan)))) [] (λ e. absurd (omega arith)) (p .1) in
+        record {
+          start = p .0;
+          first-size = area (p .0);
+          second-size = eqb-true second (closingSize input (capOf plan)) (not-false _ (q .0));
+        }
+
+  -- and the output
+  module _ (lent : Lengths) where
+    abbrev work : List Refusal
+    work = workRefusals input sheet bytes plan (lent .first) (lent .second)
+
+    abbrev last : List Refusal
+    last = (11, not (eqb (lent .out) (input .height * entriesOf (plan .packed) (input .width)))) ∷ []
+
+    pub plan-work : {number : ℕ} → number ≢ 0 → number ≡ first work → number ≡ first (planRefusals input sheet bytes plan lent)
+    plan-work n e = judged-first work last n e
+
+    module _ (z : first work ≡ 0) {entries : ℕ} (q : entries ≡ entriesOf (plan .packed) (input .width)) where
+      pub plan-out : lent .out ≢ input .height * entries → 11 ≡ first (planRefusals input sheet bytes plan lent)
+      plan-out n = judged-next work last tt z (rw (← q, ne-eqb (lent .out) (input .height * entries) n))
+
+      pub plan-fits : lent .out ≡ input .height * entries → 0 ≡ first (planRefusals input sheet bytes plan lent)
+      plan-fits e = judged-next work last tt z (rw (← q, eq-eqb (lent .out) (input .height * entries) e))
 
     -- what an accepted call has
     pub record Taken : Type 0 where
-      pub start : first (startRefusals input sheet bytes plan (lent .first)) ≡ 0
-      pub first-size : lent .first ≡ closingSize input (capOf plan)
-      pub second-size : lent .second ≡ closingSize input (capOf plan)
+      pub work : WorkTaken (lent .first) (lent .second)
       pub out-size : lent .out ≡ input .height * entriesOf (plan .packed) (input .width)
 
     pub taken : first (planRefusals input sheet bytes plan lent) ≡ 0 → Taken
     taken e =
-        let p = first-both start later tt e in
-        let q = passed 10 (not (eqb (lent .second) (closingSize input (capOf plan))))
-        ((11, not (eqb (lent .out) (input .height * entriesOf (plan .packed) (input .width)))) ∷ []) (λ e. absurd (omega arith))
-        (p .1) in
-        let s = passed 11 (not (eqb (lent .out) (input .height * entriesOf (plan .packed) (input .width)))) []
-        (λ e. absurd (omega arith)) (q .1) in
+        let p = first-both work last tt e in
+        let q = passed 11 (not (eqb (lent .out) (input .height * entriesOf (plan .packed) (input .width)))) []
+        (λ e. absurd (omega arith)) (p .1) in
         record {
-          start = p .0;
-          first-size = area (p .0);
-          second-size = eqb-true (lent .second) (closingSize input (capOf plan)) (not-false _ (q .0));
-          out-size = eqb-true (lent .out) (input .height * entriesOf (plan .packed) (input .width)) (not-false _ (s .0));
+          work = work-taken (lent .first) (lent .second) (p .0);
+          out-size = eqb-true (lent .out) (input .height * entriesOf (plan .packed) (input .width)) (not-false _ (q .0));
         }
 
 -- EACH CALL'S OWN LIST
@@ -181,35 +193,33 @@ answers-alike : {A : Type 0} {xs ys : List Refusal} {kept : A} {Right : A → Ty
     → first xs ≡ first ys → Answers xs kept Right number after → Answers ys kept Right number after
 answers-alike e = answers-carried e (λ _ h. h)
 
-module _ (input : Input) (sheet bytes : List ℕ) (size : ℕ) (packed : Bool) (lent : Buffers) where
-  abbrev work : ℕ → List Refusal
-  work area = (10, isWorkWrong area lent) ∷ (11, isOutWrong (input .height * entriesOf packed (input .width)) lent) ∷ []
+-- with work buffers of these lengths, whatever follows
+module _ (input : Input) (sheet bytes : List ℕ) (size : ℕ) (packed : Bool) (one two : ℕ) (rest : List Refusal) where
+  abbrev joint : ℕ → List Refusal
+  joint area = (10, not (eqb one area) || not (eqb two area)) ∷ rest
 
-  -- the judge's two entries of 10, for buffers of a size
+  -- the judge's two entries of 10
   abbrev both : ℕ → List Refusal
-  both area = (10, not (eqb (length (lent .first)) area)) ∷ (10, not (eqb (length (lent .second)) area)) ∷
-      (11, isOutWrong (input .height * entriesOf packed (input .width)) lent) ∷ []
+  both area = (10, not (eqb one area)) ∷ (10, not (eqb two area)) ∷ rest
 
-  joined : (area : ℕ) → first (both area) ≡ first (work area)
-  joined area = one-entry (not (eqb (length (lent .first)) area)) (not (eqb (length (lent .second)) area)) 10 _
+  joined : (area : ℕ) → first (both area) ≡ first (joint area)
+  joined area = one-entry (not (eqb one area)) (not (eqb two area)) 10 _
 
-  pub closing-list : first
-      (planRefusals input sheet bytes (planOf true size packed) (lengthsOf lent))
+  pub closing-list : first (workRefusals input sheet bytes (planOf true size packed) one two ++ rest)
       ≡ first (inputRefusals input sheet bytes ++
-      (8, ltb highestCap size) ∷ (9, isCanvasWrong input size) ∷ work (closingSize input size))
+      (8, ltb highestCap size) ∷ (9, isCanvasWrong input size) ∷ joint (closingSize input size))
   closing-list =
       first-alike (inputRefusals input sheet bytes)
       ((8, ltb highestCap size) ∷ (9, isCanvasWrong input size) ∷ both (closingSize input size))
-      ((8, ltb highestCap size) ∷ (9, isCanvasWrong input size) ∷ work (closingSize input size)) tt
+      ((8, ltb highestCap size) ∷ (9, isCanvasWrong input size) ∷ joint (closingSize input size)) tt
       (λ _. ap (λ n. cond (ltb highestCap size) 8 (cond (isCanvasWrong input size) 9 n)) (joined (closingSize input size)))
 
-  pub opening-list : first
-      (planRefusals input sheet bytes (planOf false size packed) (lengthsOf lent))
-      ≡ first (inputRefusals input sheet bytes ++ (8, ltb largestSize size) ∷ work (frameSize input))
+  pub opening-list : first (workRefusals input sheet bytes (planOf false size packed) one two ++ rest)
+      ≡ first (inputRefusals input sheet bytes ++ (8, ltb largestSize size) ∷ joint (frameSize input))
   opening-list =
       first-alike (inputRefusals input sheet bytes)
       ((8, ltb largestSize size) ∷ (9, isCanvasWrong input 0) ∷ both (closingSize input 0))
-      ((8, ltb largestSize size) ∷ work (frameSize input)) tt
+      ((8, ltb largestSize size) ∷ joint (frameSize input)) tt
       (λ z. let j = judged (input .width) (input .height) sheet (input .side) bytes z in
       rw (
         no-margin (input .side) (input .width),
@@ -218,24 +228,32 @@ module _ (input : Input) (sheet bytes : List ℕ) (size : ℕ) (packed : Bool) (
         le-ltb longestSide (input .height) (j .high .1),
       ) (ap (λ n. cond (ltb largestSize size) 8 n) (joined (frameSize input))))
 
+-- the output's refusal, which follows in the four calls
+abbrev outRefusal : Input → Bool → Buffers → List Refusal
+outRefusal input packed lent = (11, isOutWrong (input .height * entriesOf packed (input .width)) lent) ∷ []
+
 -- THE FOUR CALLS: the answer to the plan is the call's
 module _ (input : Input) (sheet bytes : List ℕ) where
   pub open-answered : (size : ℕ) (lent : Buffers) {number : ℕ} {after : Buffers}
       → SheetAnswered input sheet bytes (planOf false size true) lent number after
       → Opens input sheet bytes size lent number after
-  open-answered size lent = answers-alike (opening-list input sheet bytes size true lent)
+  open-answered size lent = answers-alike (opening-list input sheet bytes size true (length (lent .first)) (length (lent .second))
+      (outRefusal input true lent))
 
   pub close-answered : (size : ℕ) (lent : Buffers) {number : ℕ} {after : Buffers}
       → SheetAnswered input sheet bytes (planOf true size true) lent number after
       → Closes input sheet bytes size lent number after
-  close-answered size lent = answers-alike (closing-list input sheet bytes size true lent)
+  close-answered size lent = answers-alike (closing-list input sheet bytes size true (length (lent .first)) (length (lent .second))
+      (outRefusal input true lent))
 
   pub opening-answered : (lent : Buffers) {number : ℕ} {after : Buffers}
       → LevelsAnswered input sheet bytes (planOf false 0 false) lent number after
       → OpeningLevels input sheet bytes lent number after
-  opening-answered lent = answers-alike (opening-list input sheet bytes 0 false lent)
+  opening-answered lent = answers-alike (opening-list input sheet bytes 0 false (length (lent .first)) (length (lent .second))
+      (outRefusal input false lent))
 
   pub closing-answered : (cap : ℕ) (lent : Buffers) {number : ℕ} {after : Buffers}
       → LevelsAnswered input sheet bytes (planOf true cap false) lent number after
       → ClosingLevels input sheet bytes cap lent number after
-  closing-answered cap lent = answers-alike (closing-list input sheet bytes cap false lent)
+  closing-answered cap lent = answers-alike (closing-list input sheet bytes cap false (length (lent .first)) (length (lent .second))
+      (outRefusal input false lent))

@@ -21,11 +21,10 @@ use Rattle.filters.specs.declared.Input.{Input}
 use Rattle.filters.specs.declared.judging.Plan.{Plan}
 use Rattle.filters.specs.Filters.{Buffers, Cleared, IsSheet, foregroundOf, elementOf}
 use Rattle.filters.specs.Plans.{limitOf, entriesOf, startRefusals, planRefusals, lengthsOf, firstRecord, firstLevels}
-use Rattle.filters.specs.Plans.{filtered}
-use Rattle.filters.specs.Plans.{SheetAnswered}
+use Rattle.filters.specs.Plans.{filtered, lastSize, FirstRun, SheetAnswered}
 use Rattle.filters.specs.Back.{back, wayBack, keptSheet, Ready}
 use Rattle.filters.proofs.WayBack.{HoldsBack}
-use Rattle.filters.proofs.FirstRuns.{lastSize, first-size, first-ready, first-holds}
+use Rattle.filters.proofs.FirstRuns.{first-size, first-ready, first-holds}
 use Rattle.filters.proofs.Refusing.{Taken, taken, start-taken}
 use Rattle.filters.proofs.Uniqueness.{packed-sheet}
 
@@ -70,10 +69,10 @@ module _ (input : Input) (sheet bytes : List ℕ) (plan : Plan) (lent : Buffers)
     plan-taken = taken input sheet bytes plan (lengthsOf lent) z
 
     pub plan-starts : first (startRefusals input sheet bytes plan (length (lent .first))) ≡ 0
-    plan-starts = plan-taken .start
+    plan-starts = plan-taken .work .start
 
     pub plan-ready : {run : Record} {levels : List ℕ} → IsFirstRun run levels → Ready run levels (lent .second)
-    plan-ready p = first-ready input sheet bytes (lent .first) plan plan-starts p (plan-taken .second-size)
+    plan-ready p = first-ready input sheet bytes (lent .first) plan plan-starts p (plan-taken .work .second-size)
 
     -- the output's length, as the run's record has it
     pub plan-room : (packed : Bool) → plan .packed ≡ packed → {run : Record} {levels : List ℕ} → IsFirstRun run levels
@@ -84,8 +83,17 @@ module _ (input : Input) (sheet bytes : List ℕ) (plan : Plan) (lent : Buffers)
         → after .first ≡ replicate (length levels) 0 → after .second ≡ replicate (length (lent .second)) 0 → Cleared lent after
     plan-cleared p a b = record {
       first = a ∙ ap (λ n. replicate n 0) (ap length (p .1)
-          ∙ first-size input sheet bytes (lent .first) plan plan-starts ∙ sym (plan-taken .first-size));
+          ∙ first-size input sheet bytes (lent .first) plan plan-starts ∙ sym (plan-taken .work .first-size));
       second = b;
+    }
+
+    -- it is the first run of this plan, finished
+    pub plan-run : {run : Record} {levels : List ℕ} → IsFirstRun run levels → FirstRun input sheet bytes plan run levels
+    plan-run p = record {
+      started = rw (ap length (p .1) ∙ first-size input sheet bytes (lent .first) plan plan-starts
+          ∙ sym (plan-taken .work .first-size)) plan-starts;
+      run-is = p .0;
+      levels-are = p .1;
     }
 
     size-good : plan .size ≤ limitOf plan

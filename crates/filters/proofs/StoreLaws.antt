@@ -19,7 +19,7 @@ use Rattle.run.proofs.PatchLaws.{patch-none, patch-turn, patch-all, patch-as, R
 use Rattle.filters.specs.declared.back.HeldPart.{HeldPart}
 use Rattle.filters.specs.declared.judging.Plan.{Plan}
 use Rattle.filters.specs.Plans.{Bounded, Counted}
-use Rattle.filters.specs.Back.{back, wayBack, chosen, stored, sizeAt, storedBy, Highest, IsHeldPart, Ready}
+use Rattle.filters.specs.Back.{back, isFound, chosen, stored, Highest, IsHeldPart}
 use Rattle.filters.proofs.BackSteps.{chosen-held}
 
 -- a loop that stores in a row
@@ -81,40 +81,6 @@ unfolding stored
 stored-length r second n out =
     length-raster (r .width) (r .height)
     (λ row col. cond (isHeldAt (back r) n (frameLevel r second row col)) (n + 1) (getD out (row * r .width + col) 0))
-
--- through the sizes, step by step
-pub record Steps (closing : Bool) (r : Record) (first out : List ℕ) (count k : ℕ) (again after : List ℕ) : Type 0 where
-  pub below : k ≤ count
-  pub given : Ready r first again
-  pub room : length after ≡ r .height * r .width
-  pub is : after ≡ storedBy closing r first count k out
-
-pub steps-start : {closing : Bool} {r : Record} {first second out : List ℕ} {count : ℕ} → Ready r first second
-    → length out ≡ r .height * r .width → Steps closing r first out count 0 second out
-unfolding storedBy
-steps-start g l = record { below = omega arith; given = g; room = l; is = refl }
-
-pub steps-turn : {closing : Bool} {r : Record} {first out : List ℕ} {count k : ℕ} {again after : List ℕ}
-    → Steps closing r first out count k again after → k < count → {n : ℕ} → n ≡ sizeAt closing count k → {next last : List ℕ}
-    → (length next ≡ length again) × (last ≡ stored r (wayBack r first n) n after)
-    → Steps closing r first out count (k + 1) next last
-unfolding storedBy
-steps-turn {closing} {r} {first} {out} {count} {k} {after = after} P l {n} q (s, e) = record {
-  below = omega arith;
-  given = record { taken = P .given .taken; first-size = P .given .first-size; second-size = s ∙ P .given .second-size };
-  room = ap length e ∙ stored-length r (wayBack r first n) n after;
-  is = rw add-one (e ∙ ap₂ (λ m l. stored r (wayBack r first m) m l) q (P .is));
-}
-
-pub steps-end : {closing : Bool} {r : Record} {first out : List ℕ} {count k : ℕ} {again after : List ℕ}
-    → Steps closing r first out count k again after → count ≤ k → after ≡ storedBy closing r first count count out
-steps-end {closing} {r} {first} {out} {count} {k} P l = P .is
-    ∙ ap (λ j. storedBy closing r first count j out) (let b = P .below in let e : k ≡ count = omega arith in e)
-
-pub step-small : (closing : Bool) {count k n : ℕ} → k < count → count ≤ largestSize → n ≡ sizeAt closing count k
-    → n ≤ largestSize
-step-small true l m e = omega arith
-step-small false l m e = omega arith
 
 -- the highest level
 pub highest-none : (levels : List ℕ) → Highest levels 0 0

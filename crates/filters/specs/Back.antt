@@ -1,6 +1,6 @@
 -- The way back from a finished run: an opening dilates what an erosion left, a closing erodes what a dilation gave, on all of
 -- the area that the run worked on.
-use Prim.Native.Nat.{ℕ, zero, suc, _+_, _-_, _*_, _≤_, _<_}
+use Prim.Native.Nat.{ℕ, _+_, _-_, _*_, _≤_, _<_}
 use mathlib.Core.Path.{_≡_}
 use mathlib.Core.Bool.{Bool, false, cond}
 use mathlib.Core.List.{List}
@@ -37,25 +37,23 @@ backStart r levels n = table (length levels) (λ k. cond (isHeldAt r n (getD lev
 abbrev pub wayBack : Record → List ℕ → ℕ → List ℕ
 wayBack r levels n = finished (back r) (backStart r levels n)
 
--- the packed sheet of the frame's points that are held after the way back
-unfoldable pub keptSheet : Record → List ℕ → ℕ → List ℕ
-keptSheet r second n = packed (r .width) (r .height) (λ row col. cond (isHeldAt (back r) n (frameLevel r second row col)) 1 0)
+-- a point of the frame is found at a size: it is held there after the way back
+abbrev pub isFound : Record → List ℕ → ℕ → ℕ → ℕ → Bool
+isFound r second n row col = isHeldAt (back r) n (frameLevel r second row col)
 
--- the frame's points that are held after the way back get the size and one as their level, the others keep theirs
+-- the packed sheet of the points found
+unfoldable pub keptSheet : Record → List ℕ → ℕ → List ℕ
+keptSheet r second n = packed (r .width) (r .height) (λ row col. cond (isFound r second n row col) 1 0)
+
+-- the points found get the size and one as their level, the others keep theirs
 unfoldable pub stored : Record → List ℕ → ℕ → List ℕ → List ℕ
 stored r second n out =
     raster (r .width) (r .height)
-    (λ row col. cond (isHeldAt (back r) n (frameLevel r second row col)) (n + 1) (getD out (row * r .width + col) 0))
+    (λ row col. cond (isFound r second n row col) (n + 1) (getD out (row * r .width + col) 0))
 
 -- the size taken in step k of `count`: an opening goes up from 0, a closing down to 0
 abbrev pub sizeAt : Bool → ℕ → ℕ → ℕ
 sizeAt closing count k = cond closing (count - 1 - k) k
-
--- what stands after the first k steps
-unfoldable pub storedBy : Bool → Record → List ℕ → ℕ → ℕ → List ℕ → List ℕ
-storedBy closing r levels count zero out = out
-storedBy closing r levels count (suc k) out =
-    stored r (wayBack r levels (sizeAt closing count k)) (sizeAt closing count k) (storedBy closing r levels count k out)
 
 -- m bounds the first k levels, and is at most every bound of all of them; where k is their count it is the highest
 pub record Highest (levels : List ℕ) (k m : ℕ) : Type 0 where

@@ -2,12 +2,14 @@
 use Prim.Native.Nat.{ℕ, _+_, _*_, _≤_, _<_}
 use mathlib.Core.Path.{_≡_}
 use mathlib.Core.Bool.{Bool, true, false, not, cond}
+use mathlib.Core.Logic.{_↔_}
 use mathlib.Core.List.{List, [], _∷_, _++_}
 use lib.Dec.{eqb, ltb}
-use lib.ListN.{length, getD, replicate}
+use lib.IntN.{pos}
+use lib.ListN.{length, getD}
 use Rattle.basics.specs.Limits.{largestSize, highestCap}
-use Rattle.basics.specs.Refusals.{Refusal, Answers}
-use Rattle.grid.specs.Points.{Point}
+use Rattle.basics.specs.Refusals.{Refusal, first, Answers}
+use Rattle.grid.specs.Points.{Point, at}
 use Rattle.grid.specs.Sets.{PointSet, opened, closed}
 use Rattle.grid.specs.Levels.{IsOpeningLevel, IsClosingLevel}
 use Rattle.sheet.specs.Sheets.{rowBytes}
@@ -20,7 +22,7 @@ use Rattle.filters.specs.declared.judging.Plan.{Plan}
 use Rattle.filters.specs.declared.judging.Lengths.{Lengths}
 use Rattle.filters.specs.Filters.{Buffers, Cleared, IsSheet, AreLevels, foregroundOf, elementOf, inputRefusals}
 use Rattle.filters.specs.Filters.{closingSize}
-use Rattle.filters.specs.Back.{storedBy, Highest}
+use Rattle.filters.specs.Back.{isFound, Highest}
 
 -- the largest size or cap, and the cap of the first run
 abbrev pub limitOf : Plan → ℕ
@@ -38,10 +40,13 @@ abbrev pub startRefusals : Input → List ℕ → List ℕ → Plan → ℕ → 
 startRefusals input sheet bytes plan count = inputRefusals input sheet bytes ++
     (8, ltb (limitOf plan) (plan .size)) ∷ canvasRefusals (input .width) (input .height) (capOf plan) (input .side) count
 
--- and 2 to 11, with the second work buffer and the output
+-- with the second work buffer, and 11 with the output
+abbrev pub workRefusals : Input → List ℕ → List ℕ → Plan → ℕ → ℕ → List Refusal
+workRefusals input sheet bytes plan count second = startRefusals input sheet bytes plan count ++
+    (10, not (eqb second (closingSize input (capOf plan)))) ∷ []
+
 abbrev pub planRefusals : Input → List ℕ → List ℕ → Plan → Lengths → List Refusal
-planRefusals input sheet bytes plan lent = startRefusals input sheet bytes plan (lent .first) ++
-    (10, not (eqb (lent .second) (closingSize input (capOf plan)))) ∷
+planRefusals input sheet bytes plan lent = workRefusals input sheet bytes plan (lent .first) (lent .second) ++
     (11, not (eqb (lent .out) (input .height * entriesOf (plan .packed) (input .width)))) ∷ []
 
 abbrev pub lengthsOf : Buffers → Lengths
@@ -68,12 +73,6 @@ pub record Counted (plan : Plan) (levels : List ℕ) (count : ℕ) : Type 0 wher
   pub opening : plan .closing ≡ false → Highest levels (length levels) count
   pub closing : plan .closing ≡ true → count ≡ plan .size + 1
 
--- what stands after all of them, over levels that are 0
-pub record AllStored (plan : Plan) (r : Record) (first before after : List ℕ) : Type 0 where
-  pub count : ℕ
-  pub counted : Counted plan first count
-  pub is : after ≡ storedBy (plan .closing) r first count count (replicate (length before) 0)
-
 -- what is right: the set opened or closed by the size, the levels of opening or closing up to the cap
 abbrev pub filtered : Bool → PointSet → PointSet → ℕ → PointSet
 filtered true A K n = closed A K n
@@ -82,6 +81,30 @@ filtered false A K n = opened A K n
 abbrev pub IsFilterLevel : Bool → ℕ → PointSet → PointSet → Point → ℕ → Type 0
 IsFilterLevel true cap A K = IsClosingLevel cap A K
 IsFilterLevel false cap A K = IsOpeningLevel A K
+
+-- the sizes that points are found at: those of an opening, or those up to the cap
+abbrev pub lastSize : Plan → ℕ
+lastSize plan = cond (plan .closing) (plan .size) largestSize
+
+-- the record and the levels of the first run, all its rows worked
+pub record FirstRun (input : Input) (sheet bytes : List ℕ) (plan : Plan) (r : Record) (levels : List ℕ) : Type 0 where
+  pub started : first (startRefusals input sheet bytes plan (length levels)) ≡ 0
+  pub run-is : r ≡ firstRecord input bytes plan
+  pub levels-are : levels ≡ firstLevels input sheet bytes plan
+
+-- WHICH POINTS ARE FOUND: at each size those of the set opened or closed by it; in the end the levels
+abbrev pub FindsSize : Record → List ℕ → ℕ → List ℕ → Type 0
+FindsSize r levels n second =
+    (input : Input) (sheet bytes : List ℕ) (plan : Plan) → FirstRun input sheet bytes plan r levels → n ≤ lastSize plan
+    → (row col : ℕ) → row < r .height → col < r .width
+    → filtered (plan .closing) (foregroundOf input sheet) (elementOf input bytes) n (at (pos row) (pos col))
+    ↔ (isFound r second n row col ≡ true)
+
+abbrev pub FindsLevels : Record → List ℕ → Plan → List ℕ → Type 0
+FindsLevels r levels plan out =
+    (input : Input) (sheet bytes : List ℕ) → FirstRun input sheet bytes plan r levels
+    → AreLevels (r .width) (r .height)
+    (IsFilterLevel (plan .closing) (plan .size) (foregroundOf input sheet) (elementOf input bytes)) out
 
 abbrev pub SheetAnswered : Input → List ℕ → List ℕ → Plan → Buffers → ℕ → Buffers → Type 0
 SheetAnswered input sheet bytes plan lent =

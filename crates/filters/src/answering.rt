@@ -38,7 +38,7 @@ fn start_run(input: Input, sheet: &[u8], bytes: &[u8], plan: Plan, levels: &mut 
 }
 
 // The first run, all its rows worked.
-fn first_run(input: Input, sheet: &[u8], bytes: &[u8], plan: Plan, levels: &mut [u16]) -> Record
+pub fn first_run(input: Input, sheet: &[u8], bytes: &[u8], plan: Plan, levels: &mut [u16]) -> Record
     requires { ⌜ first (startRefusals input (now sheet) (now bytes) plan (length (now levels))) ≡ 0 ⌝ }
     ensures { λ r. ⌜ (r ≡ firstRecord input (now (bytes .entry)) plan) ×
         (now (levels .exit) ≡ firstLevels input (now (sheet .entry)) (now (bytes .entry)) plan) ⌝ }

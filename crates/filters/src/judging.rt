@@ -4,7 +4,7 @@ ghost use mathlib.Core.Path.{_≡_};
 ghost use Prim.Native.Nat.{_≤_};
 ghost use Rattle.basics.specs.Limits.{longestSide};
 ghost use Rattle.basics.specs.Refusals.{first};
-ghost use Rattle.filters.specs.Plans.{limitOf, capOf, entriesOf, startRefusals, planRefusals};
+ghost use Rattle.filters.specs.Plans.{limitOf, capOf, entriesOf, startRefusals, workRefusals, planRefusals};
 
 // An opening or a closing, by a size or up to a cap, into a packed sheet or into levels. Opening levels have no size to ask for:
 // theirs is 0.
@@ -66,16 +66,34 @@ fn first_refusal(input: Input, sheet: &[u8], bytes: &[u8], plan: Plan, count: us
     run::starting::canvas_refusal(input.width, input.height, cap_of(plan), input.side, count)
 }
 
+// The same with the second work buffer, or 0.
+pub fn work_refusal(
+    input: Input,
+    sheet: &[u8],
+    bytes: &[u8],
+    plan: Plan,
+    count: usize,
+    second: usize,
+) -> u32
+    ensures { λ r. ⌜ r ≡ first (workRefusals input (now (sheet .entry)) (now (bytes .entry)) plan count second) ⌝ }
+{
+    let refusal = first_refusal(input, sheet, bytes, plan, count);
+    if refusal != 0 {
+        return refusal;
+    }
+    if second != count {
+        return 10;
+    }
+    0
+}
+
 // Refusals 2 to 11, or 0.
 pub fn filter_refusal(input: Input, sheet: &[u8], bytes: &[u8], plan: Plan, lent: Lengths) -> u32
     ensures { λ r. ⌜ r ≡ first (planRefusals input (now (sheet .entry)) (now (bytes .entry)) plan lent) ⌝ }
 {
-    let refusal = first_refusal(input, sheet, bytes, plan, lent.first);
+    let refusal = work_refusal(input, sheet, bytes, plan, lent.first, lent.second);
     if refusal != 0 {
         return refusal;
-    }
-    if lent.second != lent.first {
-        return 10;
     }
     if lent.out != input.height * row_entries(plan.packed, input.width) {
         return 11;

@@ -10,8 +10,8 @@ ghost use Rattle.basics.specs.Limits.{largestSize};
 ghost use Rattle.basics.specs.Tables.{raster};
 ghost use Rattle.run.specs.Records.{areaWidth, areaHeight, foreign};
 ghost use Rattle.run.specs.Patches.{Patch, Canvas, levelIn};
-ghost use Rattle.filters.specs.Back.{chosen, wayBack, stored, sizeAt, storedBy, Highest, Ready};
-ghost use Rattle.filters.specs.Plans.{Bounded, Counted, AllStored};
+ghost use Rattle.filters.specs.Back.{chosen, stored, sizeAt, Highest, Ready};
+ghost use Rattle.filters.specs.Plans.{Bounded, Counted, FindsSize, FindsLevels};
 
 // The `n` levels of `out` from `at` on become `value` where those from `from` on are held.
 fn store_row(
@@ -90,13 +90,23 @@ fn store_held(run: Record, size: usize, second: &[u16], out: &mut [u16])
     );
 }
 
-// One size: the way back, and what it holds.
+// Where sizes are found: afterwards the second levels say which points of the frame the size holds.
+pub fn find_size(run: Record, size: usize, first: &[u16], second: &mut [u16])
+    requires { ⌜ Ready run (now first) (now second) × (size ≤ largestSize) ⌝ }
+    ensures { λ _. ⌜ (length (now (second .exit)) ≡ length (now (second .entry))) ×
+        FindsSize run (now (first .entry)) size (now (second .exit)) ⌝ }
+{
+    back::way_back(run, size, first, second);
+}
+
+// Stores one size.
 fn one_size(run: Record, size: usize, first: &[u16], second: &mut [u16], out: &mut [u16])
     requires { ⌜ Ready run (now first) (now second) × ((size ≤ largestSize) × (length (now out) ≡ run .height * run .width)) ⌝ }
     ensures { λ _. ⌜ (length (now (second .exit)) ≡ length (now (second .entry))) ×
-        (now (out .exit) ≡ stored run (wayBack run (now (first .entry)) size) size (now (out .entry))) ⌝ }
+        (FindsSize run (now (first .entry)) size (now (second .exit)) ×
+        (now (out .exit) ≡ stored run (now (second .exit)) size (now (out .entry)))) ⌝ }
 {
-    back::way_back(run, size, first, second);
+    find_size(run, size, first, second);
     store_held(run, size, second, out);
 }
 
@@ -111,21 +121,22 @@ fn size_at(closing: bool, count: usize, k: usize) -> usize
     k
 }
 
-// The sizes below `count`, one after the other.
+// The sizes below `count`, one after the other, over levels that are 0.
 fn go_through(
     run: Record,
-    closing: bool,
+    plan: Plan,
     count: usize,
     first: &[u16],
     second: &mut [u16],
     out: &mut [u16],
 )
-    requires { ⌜ Ready run (now first) (now second) × ((count ≤ largestSize) × (length (now out) ≡ run .height * run .width)) ⌝ }
-    ensures { λ _. ⌜ now (out .exit) ≡ storedBy closing run (now (first .entry)) count count (now (out .entry)) ⌝ }
+    requires { ⌜ Ready run (now first) (now second) × (Bounded plan (now first) × (Counted plan (now first) count ×
+        (now out ≡ replicate (run .height * run .width) 0))) ⌝ }
+    ensures { λ _. ⌜ FindsLevels run (now (first .entry)) plan (now (out .exit)) ⌝ }
 {
     let mut k = 0;
     while k < count {
-        one_size(run, size_at(closing, count, k), first, second, out);
+        one_size(run, size_at(plan.closing, count, k), first, second, out);
         k += 1;
     }
 }
@@ -165,11 +176,11 @@ fn count_of(plan: Plan, levels: &[u16]) -> usize
 fn all_sizes(run: Record, plan: Plan, first: &[u16], second: &mut [u16], out: &mut [u16])
     requires { ⌜ Ready run (now first) (now second) × (Bounded plan (now first) ×
         (length (now out) ≡ run .height * run .width)) ⌝ }
-    ensures { λ _. ⌜ AllStored plan run (now (first .entry)) (now (out .entry)) (now (out .exit)) ⌝ }
+    ensures { λ _. ⌜ FindsLevels run (now (first .entry)) plan (now (out .exit)) ⌝ }
 {
     back::clear(out);
     let count = count_of(plan, first);
-    go_through(run, plan.closing, count, first, second, out);
+    go_through(run, plan, count, first, second, out);
 }
 
 // The levels of a plan from its finished first run; both work buffers are cleared.
@@ -184,7 +195,7 @@ pub fn filter_levels(
         (length (now out) ≡ run .height * run .width)) ⌝ }
     ensures { λ _. ⌜ (now (first .exit) ≡ replicate (length (now (first .entry))) 0) ×
         ((now (second .exit) ≡ replicate (length (now (second .entry))) 0) ×
-        AllStored plan run (now (first .entry)) (now (out .entry)) (now (out .exit))) ⌝ }
+        FindsLevels run (now (first .entry)) plan (now (out .exit))) ⌝ }
 {
     all_sizes(run, plan, first, second, out);
     back::clear_both(first, second);

@@ -1,7 +1,7 @@
 // Opening, closing and their transforms: a finished erosion or dilation, and the way back from it at each size asked for.
-mod answering;
+pub mod answering;
 pub mod back;
-mod judging;
+pub mod judging;
 pub mod levels;
 
 ghost use Rattle.filters.specs.Filters.{Opens, Closes, OpeningLevels, ClosingLevels};
