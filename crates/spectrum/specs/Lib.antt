@@ -1,0 +1,3 @@
+pub mod Spectrum
+pub mod Counting
+pub mod Promises
