@@ -59,6 +59,16 @@ module _ (A K : PointSet) (x : Point) {m : ℕ} where
   pub opening-iff : IsOpeningLevel A K x m → (n : ℕ) → opened A K n x ↔ (n < m)
   opening-iff p = last-iff (λ i j l. opened-shrinks A K i j l x) p
 
+  -- 1 or more exactly on A, as opening by 0 holds A
+  pub opening-positive : IsOpeningLevel A K x m → A x ↔ (0 < m)
+  opening-positive p = let i = opening-iff p 0 in (
+    (λ h. i .0 (x, origin, (λ b e. subst A (sym (ap (λ b. x ⊕ b) e ∙ ⊕-origin x)) h), refl, sym (⊕-origin x))),
+    (λ l. held (i .1 l)),
+  )
+    where
+      held : opened A K 0 x → A x
+      held (a, b, h, e, q) = subst A (sym q) (h b e)
+
   pub dilation-iff : {R : ℕ} → K origin → IsDilationLevel R A K x m → (n : ℕ) → n ≤ R → dilated A K n x ↔ ((0 < m) × (m ≤ suc n))
   dilation-iff o p = first-iff (λ i j l. dilated-grows A K o i j l x) p
 

@@ -153,7 +153,7 @@ one-stored [] a e = absurd (omega arith)
 one-stored (x ∷ []) a e = refl
 one-stored (x ∷ y ∷ rest) a e = absurd (omega arith)
 
-pub two-stored : (answer : List ℕ) (a b : ℕ) → length answer ≡ 2 → set (set answer 0 a) 1 b ≡ a ∷ b ∷ []
+pub two-stored : {A : Type 0} (answer : List A) (a b : A) → length answer ≡ 2 → set (set answer 0 a) 1 b ≡ a ∷ b ∷ []
 two-stored [] a b e = absurd (omega arith)
 two-stored (x ∷ []) a b e = absurd (omega arith)
 two-stored (x ∷ y ∷ []) a b e = refl

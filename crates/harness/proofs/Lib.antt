@@ -3,3 +3,4 @@ pub mod AnswerLaws
 pub mod FileAnswers
 pub mod RunAnswers
 pub mod Unique
+pub mod FractionAnswers

@@ -2,13 +2,24 @@
 use Prim.Native.Nat.{ℕ}
 use mathlib.Core.Path.{_≡_}
 use mathlib.Core.List.{List}
-use Rattle.basics.proofs.RefusalLaws.{rule-unique}
+use lib.Ieee.{Float}
+use Rattle.basics.proofs.RefusalLaws.{rule-unique, answers-unique}
 use Rattle.element.specs.Reflect.{Reflects}
+use Rattle.filters.specs.declared.Input.{Input}
+use Rattle.filters.specs.Filters.{Buffers}
+use Rattle.spectrum.specs.Spectrum.{summaryOf}
+use Rattle.spectrum.proofs.Promises.{right-one}
+use Rattle.harness.specs.Fractions.{fractionsOf, GivesFractions}
 use Rattle.harness.specs.Files.{ReadsSheet, WritesSheet, WritesPicture}
 use Rattle.harness.specs.Runs.{StartsErosionWords, StartsDilationWords, StartsCroppedWords, ContinuesWords, CollectsWords}
 use Rattle.harness.specs.Runs.{ThresholdsWords, ShowsProvisionalWords}
 
 module _ (m n : ℕ) where
+  pub spectrum-unique : (input : Input) (sheet bytes : List ℕ) (lent : Buffers) (fractions : List Float) (x y : Buffers × List Float)
+      → GivesFractions input sheet bytes lent fractions m x → GivesFractions input sheet bytes lent fractions n y → (m ≡ n) × (x ≡ y)
+  spectrum-unique input sheet bytes lent fractions x y =
+      answers-unique (right-one (λ counts. fractionsOf (summaryOf counts)) input sheet bytes lent) m n x y
+
   pub reflect-unique : (side : ℕ) (cells out x y : List ℕ) → Reflects side cells out m x → Reflects side cells out n y
       → (m ≡ n) × (x ≡ y)
   reflect-unique side cells out x y = rule-unique m n x y

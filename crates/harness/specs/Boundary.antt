@@ -50,8 +50,8 @@ holdsNoRecord words =
 abbrev pub wordsRefusal : List ℕ → Refusal
 wordsRefusal words = (1, holdsNoRecord words)
 
--- refusal 11 of an answer slice that has not `size` words
-abbrev pub answerRefusal : ℕ → List ℕ → Refusal
+-- refusal 11 of an answer slice that has not `size` words or doubles
+abbrev pub answerRefusal : {A : Type 0} → ℕ → List A → Refusal
 answerRefusal size answer = (11, not (eqb (length answer) size))
 
 -- a refusal set before those with numbers above 11, in a list of refusals that rise

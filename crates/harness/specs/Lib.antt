@@ -1,3 +1,4 @@
 pub mod Boundary
 pub mod Files
 pub mod Runs
+pub mod Fractions

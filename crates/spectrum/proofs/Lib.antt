@@ -4,3 +4,4 @@ pub mod BlankLaws
 pub mod Finding
 pub mod Refusing
 pub mod Answers
+pub mod Promises

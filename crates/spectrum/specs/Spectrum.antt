@@ -46,6 +46,10 @@ summaryOf counts = record {
 abbrev pub noSummary : Summary
 noSummary = record { mean = ofBits binary64 0; share = ofBits binary64 0 }
 
+-- an entry for each level from 0 to the larger side
+abbrev pub tableSize : Input → ℕ
+tableSize input = max (input .width) (input .height) + 1
+
 -- 14: no pixel of the frame is 1
 abbrev pub isBlank : ℕ → ℕ → List ℕ → Bool
 isBlank width height sheet = eqb (pointsWhere width height (λ row col. eqb (pixel width sheet row col) 1)) 0
@@ -54,7 +58,7 @@ isBlank width height sheet = eqb (pointsWhere width height (λ row col. eqb (pix
 abbrev pub refusalsBy : Input → List ℕ → List ℕ → ℕ → ℕ → ℕ → List Refusal
 refusalsBy input sheet bytes one two entries = inputRefusals input sheet bytes ++
     (10, not (eqb one (frameSize input)) || not (eqb two (frameSize input))) ∷
-    (11, not (eqb entries (max (input .width) (input .height) + 1))) ∷
+    (11, not (eqb entries (tableSize input))) ∷
     (14, isBlank (input .width) (input .height) sheet) ∷ []
 
 abbrev pub spectrumRefusals : Input → List ℕ → List ℕ → Buffers → List Refusal
