@@ -47,9 +47,11 @@
  *         maximum
  *     9   a canvas side above 4,096
  *    10   the length of the levels, of a map, or of a work buffer, is wrong
- *    11   the length of an answer slice is wrong; in file reading and writing, room shorter than what is written
+ *    11   the length of an answer slice or of a table is wrong; in file reading and writing, room shorter than what is
+ *         written
  *    12   an allowance above 8,192
  *    13   a picture asked of a run with rows still due
+ *    14   a spectrum asked of a sheet without foreground
  *    21   the file doesn't begin with P4
  *    22   the file's header is broken
  *    23   the file's raster is short
@@ -324,6 +326,32 @@ uint32_t wt_closing_levels(uint64_t width, uint64_t height,
                            uint16_t *work_a, size_t work_a_len,
                            uint16_t *work_b, size_t work_b_len,
                            uint16_t *out, size_t out_len);
+
+/*
+ * The spectrum of sizes: how many points of the frame have each opening level, without the transform that says which. The
+ * points of level n, from 1, are those that opening by n - 1 holds and opening by n does not.
+ *
+ *   width, height    the frame
+ *   sheet            the sheet
+ *   side, cells      the element
+ *   work_a, work_b   width * height levels each; what they hold doesn't matter, and both become all zero
+ *   table            as many entries as the larger side of the frame, and one more; entry n becomes the number of the
+ *                    frame's points of opening level n, entry 0 that of the background. They add up to width * height.
+ *   summary          2 doubles; the first becomes the mean opening level over the foreground, the sum of n times entry n
+ *                    divided by the number of foreground points, the second the share of the foreground at level 1,
+ *                    entry 1 divided by the same number. Each is one division of two whole numbers that a double holds
+ *                    exactly.
+ *
+ * Refusals, in order: 2, 3, 4, 5, 6, 7, 10, 11 (table of another length, or summary not 2 doubles), 14.
+ */
+uint32_t wt_spectrum(uint64_t width, uint64_t height,
+                     const uint8_t *sheet, size_t sheet_len,
+                     uint64_t side,
+                     const uint8_t *cells, size_t cells_len,
+                     uint16_t *work_a, size_t work_a_len,
+                     uint16_t *work_b, size_t work_b_len,
+                     uint64_t *table, size_t table_len,
+                     double *summary, size_t summary_len);
 
 /*
  * Dilates each foreground point by a size of its own, which a map gives, at little more than the cost of one dilation,

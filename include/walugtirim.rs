@@ -28,6 +28,9 @@ extern "C" {
     pub fn wt_closing_levels(width: u64, height: u64, sheet: *const u8, sheet_len: usize, side: u64, cells: *const u8,
         cells_len: usize, cap: u64, work_a: *mut u16, work_a_len: usize, work_b: *mut u16, work_b_len: usize,
         out: *mut u16, out_len: usize) -> u32;
+    pub fn wt_spectrum(width: u64, height: u64, sheet: *const u8, sheet_len: usize, side: u64, cells: *const u8,
+        cells_len: usize, work_a: *mut u16, work_a_len: usize, work_b: *mut u16, work_b_len: usize,
+        table: *mut u64, table_len: usize, summary: *mut f64, summary_len: usize) -> u32;
     pub fn wt_dilate_by_map(width: u64, height: u64, sheet: *const u8, sheet_len: usize, side: u64, cells: *const u8,
         cells_len: usize, cap: u64, map: *const u16, map_len: usize, work: *mut u16, work_len: usize,
         out: *mut u8, out_len: usize) -> u32;

@@ -1,6 +1,6 @@
 //! The library's calls that are timed, on buffers that the caller keeps.
 
-use walugtirim::lent::{self, Record};
+use walugtirim::lent::{self, Record, Summary};
 use walugtirim::{Refusal, MOST_ALLOWANCE};
 
 use crate::sheets::{Element, Sheet};
@@ -55,6 +55,17 @@ pub fn filter(
 pub fn opening_levels(sheet: &Sheet, element: &Element, work: &mut [Vec<u16>; 2], out: &mut [u16]) {
     let [a, b] = work;
     accepted(lent::opening_levels(sheet.given(element), a, b, out));
+}
+
+/// Counts the points of each opening level.
+pub fn spectrum(
+    sheet: &Sheet,
+    element: &Element,
+    work: &mut [Vec<u16>; 2],
+    table: &mut [u64],
+) -> Summary {
+    let [a, b] = work;
+    accepted(lent::spectrum(sheet.given(element), a, b, table))
 }
 
 /// Dilates each foreground point by the size that the map gives at it.

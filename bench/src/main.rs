@@ -16,7 +16,7 @@ mod sheets;
 use std::hint::black_box;
 use std::time::Instant;
 
-use walugtirim::lent::Record;
+use walugtirim::lent::{Record, Summary};
 
 use raw::{Frame, Leptonica, Way};
 use sheets::{elements, Content, Element, Sheet};
@@ -216,6 +216,45 @@ fn opening_levels_by(
             }
         }
     }
+}
+
+/// What a spectrum is counted in, and its answer. The library's has no use for the third buffer of levels.
+struct SpectrumRoom {
+    work: [Vec<u16>; 2],
+    levels: Vec<u16>,
+    table: Vec<u64>,
+    summary: Summary,
+}
+
+impl SpectrumRoom {
+    fn new(sheet: &Sheet) -> SpectrumRoom {
+        let levels = || vec![0; sheet.width * sheet.height];
+        SpectrumRoom {
+            work: [levels(), levels()],
+            levels: levels(),
+            table: vec![0; sheet.width.max(sheet.height) + 1],
+            summary: Summary {
+                mean_level: 0.0,
+                share_at_level_one: 0.0,
+            },
+        }
+    }
+}
+
+/// The spectrum with scans in C, as one would have it without such a call: the opening transform, and a count of its
+/// levels.
+fn spectrum_by(which: Way, sheet: &Sheet, element: &Element, room: &mut SpectrumRoom) {
+    opening_levels_by(which, sheet, element, &mut room.work, &mut room.levels);
+    room.table.fill(0);
+    for level in &room.levels {
+        room.table[usize::from(*level)] += 1;
+    }
+    let weighted = (0..).zip(&room.table).map(|(level, points)| level * points);
+    let (sum, foreground) = (weighted.sum::<u64>(), room.table[1..].iter().sum::<u64>());
+    room.summary = Summary {
+        mean_level: sum as f64 / foreground as f64,
+        share_at_level_one: room.table[1] as f64 / foreground as f64,
+    };
 }
 
 /// Sets levels up by a map, without a branch for each pixel: on the foreground what `level_of` makes of the size there.
@@ -509,6 +548,49 @@ fn bench_opening_levels(options: &Options, element: &Element) -> Row {
     row
 }
 
+/// The spectrum, and the library's opening transform of the same sheet beside it, which becomes a row of its own. Both take
+/// a scan for every size that leaves something.
+fn bench_spectrum(options: &Options, element: &Element, content: Content) -> [Row; 2] {
+    let side = options.side;
+    let sheet = content.sheet(side, side);
+    let mut rooms = [(); 4].map(|()| SpectrumRoom::new(&sheet));
+    let [ours, plain, tuned, transform] = &mut rooms;
+    let runners = vec![
+        runner("library", || {
+            ours.summary = library::spectrum(&sheet, element, &mut ours.work, &mut ours.table);
+        }),
+        runner("plain C", || {
+            spectrum_by(Way::Plain, &sheet, element, plain);
+        }),
+        runner("tuned C", || {
+            spectrum_by(Way::Tuned, &sheet, element, tuned);
+        }),
+        runner("opening transform", || {
+            let SpectrumRoom { work, levels, .. } = transform;
+            library::opening_levels(&sheet, element, work, levels);
+        }),
+    ];
+    let what = format!("{}, {} {side} by {side}", element.name, content.name());
+    let timed = time(side * side, options.repeats, runners);
+    let mut row = report(format!("spectrum, {what}"), timed);
+    // In its own row the transform stands where the library's times do.
+    let mut beside = row.timed.split_off(3);
+    beside[0].name = "library";
+    let [ours, plain, tuned, transform] = &rooms;
+    println!(
+        "    the largest level is {}",
+        transform.levels.iter().copied().max().unwrap_or(0)
+    );
+    for (who, theirs) in [("plain C", plain), ("tuned C", tuned)] {
+        compare(who, &ours.table, &theirs.table);
+        compare(who, &[ours.summary], &[theirs.summary]);
+        compare(who, &transform.levels, &theirs.levels);
+    }
+    let title = format!("opening transform, {what}");
+    let timed = beside;
+    [row, Row { title, timed }]
+}
+
 /// A finished run of the library, by the cross, and how its frame lies in its levels.
 struct Finished {
     kind: &'static str,
@@ -652,14 +734,19 @@ fn main() {
             repeats: 5,
         }
     };
+    // A full sheet of 4096 by 4096 would take 2,048 scans for each spectrum.
+    let of_spectra = Options {
+        side: options.side.min(1024),
+        repeats: options.repeats.min(3),
+    };
     println!(
-        "processor time in ns per pixel of the frame, medians of {} turns; spread is (largest - smallest) / median",
-        options.repeats
+        "processor time in ns per pixel of the frame, medians of {} turns ({} for spectra); spread is (largest - smallest) / median",
+        options.repeats, of_spectra.repeats
     );
     bench_noise(&options);
     let mut rows = Vec::new();
     for element in &elements() {
-        for content in Content::ALL {
+        for content in Content::ERODED {
             rows.push(bench_erosion(&options, element, content));
         }
     }
@@ -679,6 +766,9 @@ fn main() {
         }
     }
     rows.push(bench_opening_levels(&options, &cross));
+    for content in Content::COUNTED {
+        rows.extend(bench_spectrum(&of_spectra, &cross, content));
+    }
     for (content, dilation) in [
         (Content::TextLike, false),
         (Content::RandomHalf, false),

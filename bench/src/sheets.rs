@@ -23,6 +23,11 @@ impl Sheet {
         }
     }
 
+    /// Makes a pixel foreground.
+    fn set(&mut self, column: usize, row: usize) {
+        self.bytes[row * self.width.div_ceil(8) + column / 8] |= 0x80 >> (column % 8);
+    }
+
     /// A map of sizes that grow with the row, as perspective asks, from 0 at the top to the cap at the bottom.
     pub fn growing_sizes(&self, cap: usize) -> Vec<u16> {
         let size_of = |row| u16::try_from(row * (cap + 1) / self.height).expect("a small cap");
@@ -77,16 +82,27 @@ pub enum Content {
     RandomHalf,
     TextLike,
     Full,
+    Discs,
 }
 
 impl Content {
-    pub const ALL: [Content; 3] = [Content::RandomHalf, Content::TextLike, Content::Full];
+    /// What erosion runs are timed on.
+    pub const ERODED: [Content; 3] = [Content::RandomHalf, Content::TextLike, Content::Full];
+
+    /// What spectra are timed on.
+    pub const COUNTED: [Content; 4] = [
+        Content::RandomHalf,
+        Content::TextLike,
+        Content::Discs,
+        Content::Full,
+    ];
 
     pub fn name(self) -> &'static str {
         match self {
             Content::RandomHalf => "random half",
             Content::TextLike => "text-like",
             Content::Full => "full",
+            Content::Discs => "discs of all sizes",
         }
     }
 
@@ -105,8 +121,36 @@ impl Content {
             }
             Content::Full => sheet.bytes.fill(255),
             Content::TextLike => strokes(&mut sheet, &mut dice),
+            Content::Discs => discs(&mut sheet),
         }
         sheet
+    }
+}
+
+/// Discs of every radius up to a sixteenth of the smaller side, in rows: from the largest to the smallest, and again from
+/// the largest, until one finds no room.
+fn discs(sheet: &mut Sheet) {
+    let largest = sheet.width.min(sheet.height) / 16;
+    let (mut left, mut top, mut row_height) = (0, 0, 0);
+    for radius in (1..=largest).rev().cycle() {
+        // A column and a row more, so that no two touch.
+        let place = 2 * radius + 2;
+        if left + place > sheet.width {
+            (left, top, row_height) = (0, top + row_height, 0);
+        }
+        row_height = row_height.max(place);
+        if top + row_height > sheet.height {
+            break;
+        }
+        for y in 0..=2 * radius {
+            for x in 0..=2 * radius {
+                let (across, down) = (x.abs_diff(radius), y.abs_diff(radius));
+                if across * across + down * down <= radius * radius {
+                    sheet.set(left + x, top + y);
+                }
+            }
+        }
+        left += place;
     }
 }
 
@@ -128,7 +172,7 @@ fn strokes(sheet: &mut Sheet, dice: &mut Dice) {
                 };
                 for y in row..(row + height).min(sheet.height) {
                     for x in column..(column + width).min(sheet.width) {
-                        sheet.bytes[y * sheet.width.div_ceil(8) + x / 8] |= 0x80 >> (x % 8);
+                        sheet.set(x, y);
                     }
                 }
             }

@@ -331,6 +331,55 @@ pub fn closing_levels(
     filter(c::wt_closing_levels, given, cap, work_a, work_b, out)
 }
 
+/// The two fractions of a spectrum. Each is one division of two whole numbers that a double holds exactly.
+#[derive(Clone, Copy, Debug, PartialEq)]
+pub struct Summary {
+    /// The mean opening level over the foreground: the sum of each level times its number of points, divided by the number
+    /// of foreground points.
+    pub mean_level: f64,
+    /// The share of the foreground at level 1: the number of points of level 1, divided by that of foreground points.
+    pub share_at_level_one: f64,
+}
+
+/// Counts the frame's points of each opening level, those of level n in entry n of the table, where entry 0 is the
+/// background, and answers the two fractions. The table has as many entries as the larger side of the frame, and one
+/// more. Each work buffer has as many levels as the frame has points.
+///
+/// # Errors
+/// 2 to 7, 10, 11, 14, the first that applies.
+pub fn spectrum(
+    given: Given,
+    work_a: &mut [u16],
+    work_b: &mut [u16],
+    table: &mut [u64],
+) -> Result<Summary, Refusal> {
+    let mut summary = [0.0; 2];
+    let number = unsafe {
+        c::wt_spectrum(
+            given.width,
+            given.height,
+            given.sheet.as_ptr(),
+            given.sheet.len(),
+            given.side,
+            given.cells.as_ptr(),
+            given.cells.len(),
+            work_a.as_mut_ptr(),
+            work_a.len(),
+            work_b.as_mut_ptr(),
+            work_b.len(),
+            table.as_mut_ptr(),
+            table.len(),
+            summary.as_mut_ptr(),
+            summary.len(),
+        )
+    };
+    Refusal::check(number)?;
+    Ok(Summary {
+        mean_level: summary[0],
+        share_at_level_one: summary[1],
+    })
+}
+
 /// Dilates each foreground point by a size of its own, up to a cap. The map has a size for each point of the frame; what
 /// stands in it at background points doesn't matter. The work buffer has as many levels as the canvas has points.
 ///

@@ -4,7 +4,8 @@
 //! background, but for [`Run::start_cropped`], where it is foreground. An [`Element`] is a small set around its origin.
 //! A [`Run`] finds, at every point of the frame, up to which size an erosion keeps it or from which size a dilation
 //! reaches it; it can be worked in slices of rows, and gives no picture before all its rows are done.
-//! [`Run::provisional`] is a look at one under way. [`Sheet::dilate_by_map`] dilates each point by a size of its own.
+//! [`Run::provisional`] is a look at one under way. [`Sheet::dilate_by_map`] dilates each point by a size of its own, and
+//! [`Sheet::spectrum`] counts the points of each opening level.
 //!
 //! ```
 //! use walugtirim::{Element, Run, Sheet};
@@ -30,7 +31,7 @@ mod room;
 pub use lent::Continued;
 pub use refusal::Refusal;
 
-use lent::{Given, Record, State};
+use lent::{Given, Record, State, Summary};
 
 /// The words of a record.
 pub const RECORD_WORDS: usize = 56;
@@ -198,6 +199,35 @@ impl Sheet {
         Ok(levels)
     }
 
+    /// The spectrum of sizes: how many points of the frame have each opening level, with the mean level over the
+    /// foreground and the share of it at level 1. It tells sheets of large shapes from sheets of small ones, or of specks;
+    /// `examples/spectrum.rs` draws it.
+    ///
+    /// ```
+    /// use walugtirim::{Element, Sheet};
+    ///
+    /// # fn main() -> Result<(), walugtirim::Refusal> {
+    /// // The row 1 0 1 1 1 and the origin with its right neighbour: the opening levels are 1 0 3 3 3.
+    /// let sheet = Sheet::new(5, 1, vec![0xB8]);
+    /// let pair = Element::new(3, vec![0, 0, 0, 0, 1, 1, 0, 0, 0]);
+    /// let spectrum = sheet.spectrum(&pair)?;
+    /// assert_eq!(spectrum.table(), [1, 1, 0, 3, 0, 0]);
+    /// assert_eq!(spectrum.mean_level(), 2.5);
+    /// assert_eq!(spectrum.share_at_level_one(), 0.25);
+    /// # Ok(())
+    /// # }
+    /// ```
+    ///
+    /// # Errors
+    /// 2 to 7, or 14 for a sheet without foreground, the lowest that applies.
+    pub fn spectrum(&self, element: &Element) -> Result<Spectrum, Refusal> {
+        let area = room::frame_points(self.width, self.height);
+        let (mut work_a, mut work_b) = (vec![0; area], vec![0; area]);
+        let mut table = vec![0; room::table_entries(self.width, self.height)];
+        let summary = lent::spectrum(self.given(element), &mut work_a, &mut work_b, &mut table)?;
+        Ok(Spectrum { table, summary })
+    }
+
     /// Dilates each foreground point by a size of its own, up to a cap of 0 to 2047: gives the union, over these points,
     /// of the element added to itself so many times and moved to the point. In a picture of a road, sizes that grow
     /// towards the lower edge follow perspective; `examples/road.rs` shows that.
@@ -262,6 +292,42 @@ impl Sheet {
             side: element.side,
             cells: &element.bytes,
         }
+    }
+}
+
+/// What [`Sheet::spectrum`] gives: how many points have each opening level, and two fractions of the foreground.
+#[derive(Clone, Debug, PartialEq)]
+pub struct Spectrum {
+    table: Vec<u64>,
+    summary: Summary,
+}
+
+impl Spectrum {
+    /// The number of points of each level, from 0, the background, to the larger side of the frame. They add up to width
+    /// times height.
+    #[must_use]
+    pub fn table(&self) -> &[u64] {
+        &self.table
+    }
+
+    /// The number of points of one level; it is 0 for levels above the larger side of the frame.
+    #[must_use]
+    pub fn points(&self, level: u16) -> u64 {
+        self.table.get(usize::from(level)).copied().unwrap_or(0)
+    }
+
+    /// The mean level over the foreground: the sum of each level times its number of points, divided by the number of
+    /// foreground points. It is one division of two whole numbers that a double holds exactly.
+    #[must_use]
+    pub fn mean_level(&self) -> f64 {
+        self.summary.mean_level
+    }
+
+    /// The share of the foreground at level 1: the number of points of level 1, divided by that of foreground points. It
+    /// is one division too.
+    #[must_use]
+    pub fn share_at_level_one(&self) -> f64 {
+        self.summary.share_at_level_one
     }
 }
 

@@ -11,7 +11,7 @@ pub struct Refusal {
     number: u32,
 }
 
-const SENTENCES: [(u32, &str); 17] = [
+const SENTENCES: [(u32, &str); 18] = [
     (
         1,
         "the record is none that a start could give, or its rows done exceed the rows due",
@@ -39,10 +39,11 @@ const SENTENCES: [(u32, &str); 17] = [
     ),
     (
         11,
-        "the length of an output is wrong, or there is too little room for what is written",
+        "the length of an output or a table is wrong, or there is too little room for what is written",
     ),
     (12, "the allowance exceeds 8192"),
     (13, "a picture was asked of a run with rows still due"),
+    (14, "a spectrum was asked of a sheet without foreground"),
     (21, "the file doesn't begin with P4"),
     (22, "the file's header is broken"),
     (23, "the file's raster is short"),

@@ -33,6 +33,15 @@ pub fn frame_points(width: u64, height: u64) -> usize {
     }
 }
 
+/// The entries of a spectrum's table: one for each level from 0 to the larger side of the frame.
+pub fn table_entries(width: u64, height: u64) -> usize {
+    if in_range(width) && in_range(height) {
+        count(width.max(height) + 1)
+    } else {
+        0
+    }
+}
+
 /// The points of a canvas: the frame with a margin of cap times reach on all sides.
 pub fn canvas_points(width: u64, height: u64, side: u64, cap: u64) -> usize {
     if !in_range(width) || !in_range(height) || !matches!(side, 3 | 5 | 7) || cap > MOST_CAP {

@@ -1,8 +1,8 @@
 //! The small sheets of document 01, worked by hand, through the safe functions; and that no argument, however wrong,
 //! does more than be refused.
 
-use walugtirim::lent::{self, Given};
-use walugtirim::{Element, Look, Refusal, Run, Sheet, MORE_THAN_CAP, RECORD_WORDS};
+use walugtirim::lent::{self, Given, Summary};
+use walugtirim::{Element, Look, Refusal, Run, Sheet, Spectrum, MORE_THAN_CAP, RECORD_WORDS};
 
 /// A sheet of one row, `1` being foreground.
 fn row(pixels: &str) -> Sheet {
@@ -235,6 +235,98 @@ fn dilations_seen_in_the_frame_do_not_fold() {
     assert_eq!(dilated(&column, 2), Sheet::new(1, 2, vec![0x80, 0x80]));
 }
 
+/// The mean level, and the share of the foreground at level 1.
+fn fractions(spectrum: &Spectrum) -> (f64, f64) {
+    (spectrum.mean_level(), spectrum.share_at_level_one())
+}
+
+/// The table of a spectrum, counted from the opening transform.
+fn counted(sheet: &Sheet, element: &Element) -> Vec<u64> {
+    let larger = usize::try_from(sheet.width.max(sheet.height)).unwrap();
+    let mut table = vec![0; larger + 1];
+    for level in sheet.opening_levels(element).unwrap() {
+        table[usize::from(level)] += 1;
+    }
+    table
+}
+
+#[test]
+fn a_spectrum_counts_each_level() {
+    let spectrum = row("10111").spectrum(&t()).unwrap();
+    assert_eq!(spectrum.table(), [1, 1, 0, 3, 0, 0]);
+    assert_eq!((spectrum.points(3), spectrum.points(6)), (3, 0));
+    assert_eq!(fractions(&spectrum), (2.5, 0.25));
+    // All points have the highest level that the table has an entry for.
+    let spectrum = row("11111").spectrum(&t()).unwrap();
+    assert_eq!(spectrum.table(), [0, 0, 0, 0, 0, 5]);
+    assert_eq!(fractions(&spectrum), (5.0, 0.0));
+    // Opening by 1 takes the four corners and leaves a cross. No double is a ninth: each fraction is rounded once.
+    let full = Sheet::new(3, 3, vec![0xE0; 3]);
+    let spectrum = full.spectrum(&Element::cross()).unwrap();
+    assert_eq!(spectrum.table(), [0, 4, 5, 0]);
+    assert_eq!(fractions(&spectrum), (14.0 / 9.0, 4.0 / 9.0));
+}
+
+#[test]
+fn a_spectrum_adds_up() {
+    for sheet in [
+        row("10111"),
+        row("1"),
+        ring(),
+        Sheet::new(6, 5, vec![0x7C, 0xFC, 0xFC, 0x38, 0x04]),
+        // Two columns, and padding bits that are no foreground.
+        Sheet::new(2, 7, vec![0xFF, 0xC0, 0x7F, 0xC0, 0xC0, 0xFF, 0x80]),
+    ] {
+        for element in [Element::cross(), Element::square(), t()] {
+            let spectrum = sheet.spectrum(&element).unwrap();
+            let points: u64 = spectrum.table().iter().sum();
+            assert_eq!(points, sheet.width * sheet.height);
+            assert_eq!(spectrum.table(), counted(&sheet, &element));
+        }
+    }
+}
+
+#[test]
+fn a_sheet_without_foreground_is_judged_last() {
+    // The padding bits are set.
+    let (blank, sheet, element) = (Sheet::new(5, 1, vec![0x07]), row("10111"), t());
+    let given = |sheet| Given {
+        width: 5,
+        height: 1,
+        sheet,
+        side: element.side,
+        cells: &element.bytes,
+    };
+    let (mut work_a, mut work_b) = ([7; 6], [8; 6]);
+    let mut table = [9; 7];
+    for (bytes, levels_a, levels_b, entries, refusal) in [
+        (&blank.bytes, 5, 5, 6, 14),
+        (&blank.bytes, 5, 5, 7, 11),
+        (&blank.bytes, 5, 6, 7, 10),
+        (&blank.bytes, 4, 5, 6, 10),
+        (&sheet.bytes, 5, 5, 5, 11),
+        (&sheet.bytes, 5, 4, 6, 10),
+        (&sheet.bytes, 6, 5, 5, 10),
+    ] {
+        let (a, b) = (&mut work_a[..levels_a], &mut work_b[..levels_b]);
+        let answer = lent::spectrum(given(bytes), a, b, &mut table[..entries]);
+        assert_eq!(number(answer), refusal);
+    }
+    assert_eq!((work_a, work_b, table), ([7; 6], [8; 6], [9; 7]));
+    let (a, b) = (&mut work_a[..5], &mut work_b[..5]);
+    let summary = lent::spectrum(given(&sheet.bytes), a, b, &mut table[..6]).unwrap();
+    let expected = Summary {
+        mean_level: 2.5,
+        share_at_level_one: 0.25,
+    };
+    assert_eq!(summary, expected);
+    assert_eq!((work_a, work_b), ([0, 0, 0, 0, 0, 7], [0, 0, 0, 0, 0, 8]));
+    assert_eq!(table, [1, 1, 0, 3, 0, 0, 9]);
+    let refusal = blank.spectrum(&element).unwrap_err();
+    let sentence = "refused 14: a spectrum was asked of a sheet without foreground";
+    assert_eq!(refusal.to_string(), sentence);
+}
+
 /// A map of a row: its second and sixth point have sizes, and elsewhere it holds what no cap allows.
 const TWO_SIZES: [u16; 7] = [65535, 0, 65535, 65535, 65535, 1, 65535];
 
@@ -331,6 +423,7 @@ fn no_argument_is_too_wrong() {
         assert_eq!(number(Run::start_cropped(&sheet, &t(), u64::MAX)), 2);
         assert_eq!(number(sheet.close(&t(), 1)), 2);
         assert_eq!(number(sheet.dilate_by_map(&t(), u64::MAX, &[])), 2);
+        assert_eq!(number(sheet.spectrum(&t())), 2);
         assert_eq!(number(sheet.write_pbm()), 2);
         assert!(!sheet.pixel(0, 0));
         let element = Element::new(side, vec![1; 9]);
@@ -338,6 +431,7 @@ fn no_argument_is_too_wrong() {
         assert_eq!(number(row("1").open(&element, 1)), 4);
         assert_eq!(number(row("1").close(&element, side)), 4);
         assert_eq!(number(row("1").dilate_by_map(&element, side, &[])), 4);
+        assert_eq!(number(row("0").spectrum(&element)), 4);
     }
     assert_eq!(number(row("1").open(&t(), 4097)), 8);
     assert_eq!(number(row("1").close(&t(), u64::MAX)), 8);

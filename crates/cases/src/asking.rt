@@ -33,15 +33,17 @@ pub const CLOSING_LEVELS: usize = 14;
 
 pub const DILATE_BY_MAP: usize = 15;
 
-pub const NO_CALL: usize = 16;
+pub const SPECTRUM: usize = 16;
 
-// How many levels each accepted case lends, how many more to work with or as a map, and how many bytes or levels of room for the
-// answer.
-const LEVELS: [usize; 16] = [9, 25, 25, 9, 9, 9, 9, 9, 0, 0, 0, 9, 25, 9, 25, 25];
+pub const NO_CALL: usize = 17;
 
-const MORE: [usize; 16] = [0, 0, 0, 0, 0, 0, 0, 0, 0, 0, 0, 9, 25, 9, 25, 9];
+// How many levels each accepted case lends, how many more to work with or as a map, and how many bytes, levels or entries of
+// room for the answer.
+const LEVELS: [usize; 17] = [9, 25, 25, 9, 9, 9, 9, 9, 0, 0, 0, 9, 25, 9, 25, 25, 9];
 
-const ROOM: [usize; 16] = [0, 0, 0, 0, 9, 3, 3, 41, 9, 1, 10, 3, 3, 9, 9, 3];
+const MORE: [usize; 17] = [0, 0, 0, 0, 0, 0, 0, 0, 0, 0, 0, 9, 25, 9, 25, 9, 9];
+
+const ROOM: [usize; 17] = [0, 0, 0, 0, 9, 3, 3, 41, 9, 1, 10, 3, 3, 9, 9, 3, 4];
 
 // A case: the call; the frame; how many bytes of sheet are lent, and their value; the element's side, its bytes as decimal digits
 // (9 stands for 255) and how many of them are lent; the size, cap or allowance; the record, by its number in `records`; how many
@@ -63,7 +65,7 @@ pub struct Case {
     pub answer: usize,
 }
 
-fn entry(table: [usize; 16], call: usize) -> usize {
+fn entry(table: [usize; 17], call: usize) -> usize {
     if NO_CALL <= call {
         return 0;
     }

@@ -7,7 +7,7 @@ use filters::Input;
 // What is printed for a line that is no case.
 pub const NO_CASE: u32 = 99;
 
-// An opening, a closing, a transform, or a dilation by a map, which the second levels are.
+// An opening, a closing, a transform, a dilation by a map, which the second levels are, or a spectrum.
 fn filtered(
     call: usize,
     input: Input,
@@ -17,6 +17,7 @@ fn filtered(
     first: &mut [u16],
     second: &mut [u16],
     levels: &mut [u16],
+    table: &mut [u64],
     out: &mut [u8],
 ) -> u32 {
     if call == asking::OPEN {
@@ -33,6 +34,10 @@ fn filtered(
     }
     if call == asking::DILATE_BY_MAP {
         return maps::dilate_by_map(input, sheet, cells, number, second, first, out);
+    }
+    if call == asking::SPECTRUM {
+        let counted = spectrum::spectrum(input, sheet, cells, first, second, table);
+        return counted.refusal;
     }
     NO_CASE
 }
@@ -100,6 +105,7 @@ pub fn answer(
     first: &mut [u16],
     second: &mut [u16],
     levels: &mut [u16],
+    table: &mut [u64],
     out: &mut [u8],
 ) -> u32 {
     let call = case.call;
@@ -126,6 +132,7 @@ pub fn answer(
         first,
         second,
         levels,
+        table,
         out,
     )
 }

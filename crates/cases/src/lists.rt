@@ -112,7 +112,7 @@ fn number_for(call: &[u8], words: &[u8], text: &[u8]) -> u32 {
         call,
         b"start_erosion,start_dilation,start_cropped,continue_run,collect,threshold,provisional,\
           write_pgm,reflect,read_pbm,write_pbm,open,close,opening_levels,closing_levels,\
-          dilate_by_map",
+          dilate_by_map,spectrum",
     );
     let case = asked(asking::accepted(number), words);
     let file = file_of(text);

@@ -1,7 +1,7 @@
 // Document 01's cases 9 and 10, and a case for each refusal of each public call. The list of cases is read on standard input
 // (the file `stdin`), so a new case is a line there and nothing to prove here; for each the program prints the call, the case and
-// the number answered, 0 where it is accepted. Then case 10, how many points slices of rows lower, cropped sheets, and two points
-// dilated by a map.
+// the number answered, 0 where it is accepted. Then case 10, how many points slices of rows lower, cropped sheets, two points
+// dilated by a map, and the spectrum of case 6.
 use libc::STDIN_FILENO;
 
 mod asking;
@@ -14,6 +14,7 @@ mod padding;
 mod perspective;
 mod records;
 mod rooms;
+mod sizes;
 
 fn main() {
     let mut input = io::large_buffer();
@@ -23,4 +24,5 @@ fn main() {
     counts::say_counts();
     crops::say_crops();
     perspective::say_perspective();
+    sizes::say_spectrum();
 }

@@ -77,6 +77,7 @@ fn left_by(call: usize, sheet: &[u8], work: usize, room: usize) -> Left
     let mut first_room = [0u16; CANVAS];
     let mut second_room = [0u16; CANVAS];
     let mut levels = [0u16; FRAME];
+    let mut table = [0u64; 1];
     let mut bytes = [0u8; FILE];
     let first: &mut [u16] = &mut first_room;
     let second: &mut [u16] = &mut second_room;
@@ -99,6 +100,7 @@ fn left_by(call: usize, sheet: &[u8], work: usize, room: usize) -> Left
         &mut first[0..work],
         &mut second[0..work],
         &mut levels,
+        &mut table,
         &mut out[0..room],
     );
     Left { levels, bytes }

@@ -73,10 +73,12 @@ pub fn answer(case: Case, file: &[u8]) -> u32 {
     let mut first_room = [level_of(byte_of(case.filled)); LEVELS];
     let mut second_room = [level_of(byte_of(case.filled)); MORE];
     let mut levels_room = [0u16; ANSWER];
+    let mut table_room = [0u64; ANSWER];
     let mut bytes_room = [0u8; ANSWER];
     let first_part: &mut [u16] = &mut first_room;
     let second_part: &mut [u16] = &mut second_room;
     let levels_part: &mut [u16] = &mut levels_room;
+    let table_part: &mut [u64] = &mut table_room;
     let bytes_part: &mut [u8] = &mut bytes_room;
     calls::answer(
         case,
@@ -86,6 +88,7 @@ pub fn answer(case: Case, file: &[u8]) -> u32 {
         &mut first_part[0..levels],
         &mut second_part[0..more],
         &mut levels_part[0..answer],
+        &mut table_part[0..answer],
         &mut bytes_part[0..answer],
     )
 }

@@ -64,13 +64,7 @@ fn count_found(run: Record, size: usize, second: &[u16]) -> usize
 }
 
 // How many points have a level above the size. None has one above `most`, the highest level of the first run.
-fn points_above(
-    run: Record,
-    size: usize,
-    most: usize,
-    first: &[u16],
-    second: &mut [u16],
-) -> usize
+fn points_above(run: Record, size: usize, most: usize, first: &[u16], second: &mut [u16]) -> usize
     requires { ⌜ Ready run (now first) (now second) × (Highest (now first) (length (now first)) most × (most ≤ largestSize)) ⌝ }
     ensures { λ r. ⌜ (length (now (second .exit)) ≡ length (now (second .entry))) × CountsAbove run (now (first .entry)) size r ⌝ }
 {

@@ -48,8 +48,5 @@ pub fn summary_of(table: &[u64]) -> Summary
     let points = foreground_points(table);
     let mean = divided(levels_added(table), points);
     let share = divided(table[1], points);
-    Summary {
-        mean,
-        share,
-    }
+    Summary { mean, share }
 }

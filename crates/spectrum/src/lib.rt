@@ -91,14 +91,7 @@ pub fn spectrum(
         (record { first = now (first .entry); second = now (second .entry); out = now (table .entry) }) (r .refusal)
         (record { first = now (first .exit); second = now (second .exit); out = now (table .exit) }, r .summary) ⌝ }
 {
-    let refusal = spectrum_refusal(
-        input,
-        sheet,
-        bytes,
-        first.len(),
-        second.len(),
-        table.len(),
-    );
+    let refusal = spectrum_refusal(input, sheet, bytes, first.len(), second.len(), table.len());
     if refusal != 0 {
         return refused(refusal);
     }

@@ -31,8 +31,7 @@ fill-table-requires c κs =
     let lent : Buffers = record { first = args .first .now; second = args .second .now; out = args .table .now } in
     let accepted = sym (judged .spectrum-refusal .ensures) ∙ ran .before .before .before .if1 .left in
     let run = opening-run (args .input) (args .sheet .now) (args .bytes .now) lent accepted
-    (ran .before .before .opening-plan .ensures) (ran .first-run .ensures) in
-    (
+    (ran .before .before .opening-plan .ensures) (ran .first-run .ensures) in (
       run-ready (args .input) (args .sheet .now) (args .bytes .now) lent accepted run,
       run-levels (args .input) (args .sheet .now) (args .bytes .now) lent accepted run,
     )

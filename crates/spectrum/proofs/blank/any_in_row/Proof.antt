@@ -33,9 +33,11 @@ loop-again : tie.Need-loop-again Inv-loop μ-loop
 loop-again c =
     let args = c .before .before .before .before .args in
     let loop = c .before .before .loop in
-    let turn = c .before .loop-test .taken in
-    (omega arith, some-turn (λ col. eqb (pixel (args .width) (args .sheet .now) (args .row) col) 1) (loop .col) (loop .inv .1)
-    (ap (λ n. eqb n 1) (c .pixel-at .ensures)))
+    let turn = c .before .loop-test .taken in (
+      omega arith,
+      some-turn (λ col. eqb (pixel (args .width) (args .sheet .now) (args .row) col) 1) (loop .col) (loop .inv .1)
+          (ap (λ n. eqb n 1) (c .pixel-at .ensures)),
+    )
 
 returns : tie.Need-returns Inv-loop μ-loop
 returns c =

@@ -40,9 +40,11 @@ loop-again : tie.Need-loop-again Inv-loop μ-loop
 loop-again c =
     let args = c .before .before .before .before .before .args in
     let loop = c .before .before .before .loop in
-    let turn = c .before .before .loop-test .taken in
-    (omega arith, blank-turn (args .width) (args .height) (args .sheet .now) (loop .row) (loop .inv .1)
-    (c .before .any-in-row .ensures) (c .if1 .left))
+    let turn = c .before .before .loop-test .taken in (
+      omega arith,
+      blank-turn (args .width) (args .height) (args .sheet .now) (loop .row) (loop .inv .1)
+          (c .before .any-in-row .ensures) (c .if1 .left),
+    )
 
 returns-2 : tie.Need-returns-2 Inv-loop μ-loop
 returns-2 c =

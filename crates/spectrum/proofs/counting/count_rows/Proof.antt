@@ -67,9 +67,14 @@ loop-again c =
     (λ i. getD (args .levels .now)
     ((loop .row + args .margin) * canvasSide (args .width) (args .margin) + args .margin + i) 0) in
     let fewer = loop .inv .1 .0 in
-    let wide = entry .pre .wide in
-    (omega arith, (omega arith, added-turn _ (loop .inv .1 .1)
-    (row-counted (args .width) (args .margin) (loop .row) (args .low) (args .high) (args .levels .now) counted)))
+    let wide = entry .pre .wide in (
+      omega arith,
+      (
+        omega arith,
+        added-turn _ (loop .inv .1 .1)
+            (row-counted (args .width) (args .margin) (loop .row) (args .low) (args .high) (args .levels .now) counted),
+      ),
+    )
 
 returns : tie.Need-returns Inv-loop μ-loop
 returns c =

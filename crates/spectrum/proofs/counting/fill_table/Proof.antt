@@ -67,8 +67,7 @@ returns : tie.Need-returns Inv-loop μ-loop
 returns c =
     let loop = c .before .loop in
     let left = c .loop-test .left in
-    let size = loop .inv .size in
-    (
+    let size = loop .inv .size in (
       loop .inv .given .second-size ∙ sym (c .before .before .before .before .before .before .before .pre .0 .second-size),
       tables-end (loop .inv) (omega arith),
     )

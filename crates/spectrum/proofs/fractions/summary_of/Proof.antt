@@ -16,8 +16,7 @@ divided-requires : tie.Need-divided-requires
 divided-requires c κs =
     let entry = c .before .before .before in
     let most = levels-exact (entry .args .table .now) (entry .pre) in
-    let all = foreground-exact (entry .args .table .now) (entry .pre) in
-    (
+    let all = foreground-exact (entry .args .table .now) (entry .pre) in (
       subst (λ n. n ≤ exactLimit) (sym (c .levels-added .ensures)) most,
       subst (λ n. n ≤ exactLimit) (sym (c .before .foreground-points .ensures)) all,
     )
