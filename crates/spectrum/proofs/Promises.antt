@@ -42,8 +42,8 @@ use Rattle.filters.proofs.Refusing.{answers-carried}
 use Rattle.filters.proofs.StarredFilters.{every-starred-case}
 use Rattle.spectrum.specs.declared.Summary.{Summary}
 use Rattle.spectrum.specs.Spectrum.{IsSpectrum, foregroundPoints, levelsAdded, fraction, summaryOf, isBlank, spectrumRefusals}
-use Rattle.spectrum.specs.Spectrum.{GivesSpectrum}
-use Rattle.spectrum.specs.Counting.{exactLimit, IsTable}
+use Rattle.spectrum.specs.Spectrum.{exactLimit, GivesSpectrum}
+use Rattle.spectrum.specs.Counting.{IsTable}
 use Rattle.spectrum.specs.Promises.{OfEveryTable, AddsUp, Exact, NothingLost, CountsTransform, PaddingIgnored, CaseSixGiven}
 use Rattle.spectrum.specs.Promises.{rowOfFive}
 use Rattle.spectrum.proofs.LevelCounts.{same-test, pointsOf, pointsAbove, from-none, from-split, counts-all}

@@ -9,8 +9,8 @@ use lib.ListN.{length, getD}
 use Rattle.basics.specs.Limits.{longestSide}
 use Rattle.basics.specs.Sums.{sum}
 use Rattle.basics.proofs.SumLaws.{sum-same, sum-front, sum-part, sum-term, sum-weighed}
-use Rattle.spectrum.specs.Spectrum.{foregroundPoints, levelsAdded}
-use Rattle.spectrum.specs.Counting.{exactLimit, IsTable}
+use Rattle.spectrum.specs.Spectrum.{foregroundPoints, levelsAdded, exactLimit}
+use Rattle.spectrum.specs.Counting.{IsTable}
 
 module _ (counts : List ℕ) where
   abbrev pub entry : ℕ → ℕ

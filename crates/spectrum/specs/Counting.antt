@@ -41,10 +41,6 @@ FillsTable r first entries counts =
     (given : HasLevels r first)
     → counts ≡ table entries (λ n. pointsWhere (r .width) (r .height) (λ row col. eqb (given .level row col) n))
 
--- every whole number up to 2 ^ 53 is a double
-abbrev pub exactLimit : ℕ
-exactLimit = 9007199254740992
-
 -- a table for the longest side at most, whose entries add up to the largest frame at most
 pub record IsTable (counts : List ℕ) : Type 0 where
   pub long : 2 ≤ length counts

@@ -15,8 +15,7 @@ use Rattle.filters.specs.declared.Input.{Input}
 use Rattle.filters.specs.Filters.{Buffers, OpeningLevels, frameSize}
 use Rattle.filters.specs.StarredFilters.{Fits}
 use Rattle.spectrum.specs.declared.Summary.{Summary}
-use Rattle.spectrum.specs.Spectrum.{foregroundPoints, levelsAdded, fraction, GivesSpectrum}
-use Rattle.spectrum.specs.Counting.{exactLimit}
+use Rattle.spectrum.specs.Spectrum.{foregroundPoints, levelsAdded, exactLimit, fraction, GivesSpectrum}
 
 -- a fact about the table of every accepted call
 abbrev pub OfEveryTable : (Input → List ℕ → List ℕ → Type 0) → Type 0

@@ -31,7 +31,10 @@ foregroundPoints counts = sum (length counts - 1) (λ n. getD counts (n + 1) 0)
 abbrev pub levelsAdded : List ℕ → ℕ
 levelsAdded counts = sum (length counts) (λ n. n * getD counts n 0)
 
--- one division of two whole numbers, each as a double
+-- one division of two whole numbers, each as a double; up to 2 ^ 53 every whole number is one
+abbrev pub exactLimit : ℕ
+exactLimit = 9007199254740992
+
 abbrev pub fraction : ℕ → ℕ → Float
 fraction part whole = div binary64 (ofInt binary64 (pos part)) (ofInt binary64 (pos whole))
 

@@ -2,8 +2,8 @@
 use super::Summary;
 ghost use mathlib.Core.Path.{_≡_};
 ghost use Prim.Native.Nat.{_≤_};
-ghost use Rattle.spectrum.specs.Spectrum.{foregroundPoints, levelsAdded, fraction, summaryOf};
-ghost use Rattle.spectrum.specs.Counting.{exactLimit, IsTable};
+ghost use Rattle.spectrum.specs.Spectrum.{foregroundPoints, levelsAdded, exactLimit, fraction, summaryOf};
+ghost use Rattle.spectrum.specs.Counting.{IsTable};
 
 // The points that are no background.
 fn foreground_points(table: &[u64]) -> u64

@@ -2,7 +2,7 @@
 use lib.Dec.{le→leb}
 use lib.Ieee.{inFloat}
 use borrow.Author.Needs.{needs}
-use Rattle.spectrum.specs.Counting.{exactLimit}
+use Rattle.spectrum.specs.Spectrum.{exactLimit}
 use Rattle.spectrum.proofs.fractions.divided.Statement.{statement}
 use Rattle.spectrum.proofs.fractions.divided.Tie as tie
 

@@ -1,7 +1,6 @@
 -- Both divisions are of numbers that doubles hold exactly.
 use Rattle.spectrum.proofs.TableSums.{foreground-exact, levels-exact, term-within}
-use Rattle.spectrum.specs.Counting.{exactLimit}
-use Rattle.spectrum.specs.Spectrum.{fraction}
+use Rattle.spectrum.specs.Spectrum.{exactLimit, fraction}
 use Rattle.spectrum.specs.declared.Summary.{Summary}
 use borrow.Author.Needs.{needs}
 use native.Mathlib.Omega.{arith}
