@@ -64,11 +64,10 @@ module _ (r : Record) (first : List ℕ) (n : ℕ) where
   back-length : length (wayBack r first n) ≡ length first
   back-length = rows-length (areaOf (back r)) 0 (due (back r)) (backStart r first n) ∙ start-length
 
--- the way back, and what is then made of its levels
-pub after-back : {r : Record} {first second after out : List ℕ} (n : ℕ) (G : List ℕ → List ℕ) → Ready r first second
-    → after ≡ wayBack r first n → out ≡ G after → (length after ≡ length second) × (out ≡ G (wayBack r first n))
-after-back {r} {first} n G given e h =
-    (ap length e ∙ back-length r first n ∙ given .first-size ∙ sym (given .second-size), h ∙ ap G e)
+-- it leaves the second levels as many as they were
+pub after-back : {r : Record} {first second after : List ℕ} (n : ℕ) → Ready r first second → after ≡ wayBack r first n
+    → length after ≡ length second
+after-back {r} {first} n given e = ap length e ∙ back-length r first n ∙ given .first-size ∙ sym (given .second-size)
 
 -- what is chosen between bounds that hold a level is chosen where it is held
 pub chosen-held : (low high level : ℕ) (held : Bool) → heldBetween low high level ≡ cond held 1 0 → (on off : ℕ)

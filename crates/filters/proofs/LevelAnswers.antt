@@ -1,22 +1,16 @@
 -- The answers of the two transforms: an accepted plan's first run is finished, and the levels found from it are the set's.
-use Prim.Native.Nat.{ℕ, _*_, _≤_, _<_}
-use native.Mathlib.Nat.{le-refl}
-use native.Mathlib.Omega.{arith}
-use mathlib.Core.Path.{_≡_, refl, sym, ap, ap₂, _∙_, subst}
+use Prim.Native.Nat.{ℕ, _*_}
+use mathlib.Core.Path.{_≡_, sym}
 use mathlib.Core.Bool.{Bool, true, false, false≢true}
 use mathlib.Core.List.{List}
-use lib.ListN.{length, getD, replicate}
-use Rattle.basics.specs.Limits.{largestSize}
+use lib.ListN.{length, replicate}
 use Rattle.basics.specs.Refusals.{first}
 use Rattle.basics.proofs.RefusalLaws.{accepts}
-use Rattle.grid.specs.Points.{Point}
-use Rattle.grid.specs.Sets.{opened}
 use Rattle.run.specs.declared.Record.{Record}
-use Rattle.run.proofs.Starts.{judged}
 use Rattle.filters.specs.declared.Input.{Input}
 use Rattle.filters.specs.declared.judging.Plan.{Plan}
-use Rattle.filters.specs.Filters.{Buffers, AreLevels, foregroundOf, elementOf}
-use Rattle.filters.specs.Plans.{planRefusals, lengthsOf, firstRecord, firstLevels, IsFilterLevel, Bounded}
+use Rattle.filters.specs.Filters.{Buffers}
+use Rattle.filters.specs.Plans.{planRefusals, lengthsOf, firstLevels, Bounded}
 use Rattle.filters.specs.Plans.{FindsLevels, LevelsAnswered}
 use Rattle.filters.specs.Back.{Ready}
 use Rattle.filters.proofs.FirstRuns.{Accepts, opening-small}

@@ -1,7 +1,7 @@
 -- Going through the sizes finds the levels: upwards the last size that holds a point stands, downwards the first.
 -- Both directions take the same step, over any two facts about a level that a held and a passed size lead from one to the other.
 -- Of a size no more is asked than which points it holds.
-use Prim.Native.Nat.{ℕ, suc, _+_, _-_, _*_, _≤_, _<_}
+use Prim.Native.Nat.{ℕ, _+_, _-_, _*_, _≤_, _<_}
 use native.Mathlib.Omega.{arith}
 use mathlib.Core.Path.{_≡_, refl, sym, ap, _∙_, subst}
 use mathlib.Core.Logic.{_↔_}

@@ -25,7 +25,7 @@ use Rattle.filters.specs.declared.judging.Plan.{Plan}
 use Rattle.filters.specs.declared.judging.Lengths.{Lengths}
 use Rattle.filters.specs.Filters.{Buffers, inputRefusals, isCanvasWrong, isOutWrong, frameSize, closingSize}
 use Rattle.filters.specs.Filters.{Opens, Closes, OpeningLevels, ClosingLevels}
-use Rattle.filters.specs.Plans.{limitOf, capOf, entriesOf, startRefusals, workRefusals, planRefusals, lengthsOf}
+use Rattle.filters.specs.Plans.{limitOf, capOf, entriesOf, startRefusals, workRefusals, planRefusals}
 use Rattle.filters.specs.Plans.{SheetAnswered, LevelsAnswered}
 
 -- a plan by its fields

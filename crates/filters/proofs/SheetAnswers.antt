@@ -1,4 +1,4 @@
--- The answers of opening and closing by a size: the sheet kept after the way back is the set's.
+-- The answers of opening and closing by a size: the sheet of what is found at it is the set's.
 use Prim.Native.Nat.{ℕ, _*_, _≤_, _<_}
 use native.Mathlib.Nat.{le-refl}
 use native.Mathlib.Omega.{arith}
@@ -15,16 +15,13 @@ use Rattle.grid.specs.Points.{at}
 use Rattle.grid.specs.Sets.{PointSet}
 use Rattle.sheet.specs.Sheets.{rowBytes, packed}
 use Rattle.run.specs.declared.Record.{Record}
-use Rattle.run.specs.Kinds.{isHeldAt}
-use Rattle.run.specs.Pictures.{frameLevel}
 use Rattle.filters.specs.declared.Input.{Input}
 use Rattle.filters.specs.declared.judging.Plan.{Plan}
 use Rattle.filters.specs.Filters.{Buffers, Cleared, IsSheet, foregroundOf, elementOf}
 use Rattle.filters.specs.Plans.{limitOf, entriesOf, startRefusals, planRefusals, lengthsOf, firstRecord, firstLevels}
-use Rattle.filters.specs.Plans.{filtered, lastSize, FirstRun, SheetAnswered}
-use Rattle.filters.specs.Back.{back, wayBack, keptSheet, Ready}
-use Rattle.filters.proofs.WayBack.{HoldsBack}
-use Rattle.filters.proofs.FirstRuns.{first-size, first-ready, first-holds}
+use Rattle.filters.specs.Plans.{filtered, FirstRun, FindsSize, FindsSheet, SheetAnswered}
+use Rattle.filters.specs.Back.{isFound, keptSheet, Ready}
+use Rattle.filters.proofs.FirstRuns.{first-size, first-ready}
 use Rattle.filters.proofs.Refusing.{Taken, taken, start-taken}
 use Rattle.filters.proofs.Uniqueness.{packed-sheet}
 
@@ -48,13 +45,13 @@ tested-sheet width height A held out e is =
     yes true e = refl
     yes false e = absurd (omega arith)
 
--- the sheet kept is the set's
-kept-sheet : (r : Record) (levels : List ℕ) (limit n : ℕ) (F : ℕ → PointSet) → HoldsBack r levels limit F → n ≤ limit
-    → (out : List ℕ) → out ≡ keptSheet r (wayBack r levels n) n → IsSheet (r .width) (r .height) (F n) out
+-- the sheet of what is found is the set's
+pub kept-sheet : {r : Record} {levels : List ℕ} {n : ℕ} (second : List ℕ) → FindsSize r levels n second → {out : List ℕ}
+    → out ≡ keptSheet r second n → FindsSheet r levels n out
 unfolding keptSheet
-kept-sheet r levels limit n F holds l out e =
-    tested-sheet (r .width) (r .height) (F n) (λ row col. isHeldAt (back r) n (frameLevel r (wayBack r levels n) row col)) out e
-    (holds n l)
+kept-sheet {r} {n = n} second finds {out} e input sheet bytes plan run l =
+    tested-sheet (r .width) (r .height) (filtered (plan .closing) (foregroundOf input sheet) (elementOf input bytes) n)
+    (isFound r second n) out e (finds input sheet bytes plan run l)
 
 -- an accepted plan: its first run may be started and is ready, and the buffers are cleared in the end
 module _ (input : Input) (sheet bytes : List ℕ) (plan : Plan) (lent : Buffers) where
@@ -111,15 +108,11 @@ module _ (input : Input) (sheet bytes : List ℕ) (plan : Plan) (lent : Buffers)
 
       pub sheet-answered : (after : Buffers) → after .first ≡ replicate (length levels) 0
           → after .second ≡ replicate (length (lent .second)) 0
-          → after .out ≡ keptSheet run (wayBack run levels (plan .size)) (plan .size)
-          → SheetAnswered input sheet bytes plan lent 0 after
-      sheet-answered after a b e =
+          → FindsSheet run levels (plan .size) (after .out) → SheetAnswered input sheet bytes plan lent 0 after
+      sheet-answered after a b finds =
           accepts after z (
             plan-cleared p a b,
-            kept-sheet (firstRecord input bytes plan) (firstLevels input sheet bytes plan) (lastSize plan) (plan .size)
-                (filtered (plan .closing) (foregroundOf input sheet) (elementOf input bytes))
-                (first-holds input sheet bytes (lent .first) plan plan-starts) (last (plan .closing) size-good) (after .out)
-                (rw (p .0, p .1) at e),
+            (rw (p .0) at (finds input sheet bytes plan (plan-run p) (last (plan .closing) size-good))),
           )
         where
           last : (t : Bool) → plan .size ≤ cond t highestCap largestSize → plan .size ≤ cond t (plan .size) largestSize

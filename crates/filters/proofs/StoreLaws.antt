@@ -1,6 +1,5 @@
 -- Storing a size at the points that it holds, row by row; and the loops that go through the sizes.
 use Prim.Native.Nat.{ℕ, _+_, _*_, _≤_, _<_, max}
-use native.Mathlib.Numerals.{add-one}
 use native.Mathlib.Decide.{ℕ-discrete}
 use native.Mathlib.Omega.{arith}
 use mathlib.Core.Path.{_≡_, refl, sym, ap, ap₂, _∙_, fun-ext}
@@ -19,7 +18,7 @@ use Rattle.run.proofs.PatchLaws.{patch-none, patch-turn, patch-all, patch-as, R
 use Rattle.filters.specs.declared.back.HeldPart.{HeldPart}
 use Rattle.filters.specs.declared.judging.Plan.{Plan}
 use Rattle.filters.specs.Plans.{Bounded, Counted}
-use Rattle.filters.specs.Back.{back, isFound, chosen, stored, Highest, IsHeldPart}
+use Rattle.filters.specs.Back.{back, chosen, stored, Highest, IsHeldPart}
 use Rattle.filters.proofs.BackSteps.{chosen-held}
 
 -- a loop that stores in a row

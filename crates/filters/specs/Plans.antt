@@ -92,13 +92,18 @@ pub record FirstRun (input : Input) (sheet bytes : List ℕ) (plan : Plan) (r : 
   pub run-is : r ≡ firstRecord input bytes plan
   pub levels-are : levels ≡ firstLevels input sheet bytes plan
 
--- WHICH POINTS ARE FOUND: at each size those of the set opened or closed by it; in the end the levels
+-- WHICH POINTS ARE FOUND: at each size those of the set opened or closed by it; so the sheet of that size, and in the end the levels
 abbrev pub FindsSize : Record → List ℕ → ℕ → List ℕ → Type 0
 FindsSize r levels n second =
     (input : Input) (sheet bytes : List ℕ) (plan : Plan) → FirstRun input sheet bytes plan r levels → n ≤ lastSize plan
     → (row col : ℕ) → row < r .height → col < r .width
     → filtered (plan .closing) (foregroundOf input sheet) (elementOf input bytes) n (at (pos row) (pos col))
     ↔ (isFound r second n row col ≡ true)
+
+abbrev pub FindsSheet : Record → List ℕ → ℕ → List ℕ → Type 0
+FindsSheet r levels n out =
+    (input : Input) (sheet bytes : List ℕ) (plan : Plan) → FirstRun input sheet bytes plan r levels → n ≤ lastSize plan
+    → IsSheet (r .width) (r .height) (filtered (plan .closing) (foregroundOf input sheet) (elementOf input bytes) n) out
 
 abbrev pub FindsLevels : Record → List ℕ → Plan → List ℕ → Type 0
 FindsLevels r levels plan out =

@@ -12,6 +12,7 @@ ghost use Rattle.run.specs.Kinds.{erosionKind, dilationKind};
 ghost use Rattle.run.specs.Records.{areaWidth, areaHeight, foreign};
 ghost use Rattle.run.specs.Demand2.{finished};
 ghost use Rattle.filters.specs.Back.{back, chosen, backStart, wayBack, keptSheet, IsHeldPart, Ready};
+ghost use Rattle.filters.specs.Plans.{FindsSize, FindsSheet};
 
 // All rows of a run that has none done.
 pub fn finish(run: Record, levels: &mut [u16])
@@ -86,12 +87,21 @@ fn mark_held(run: Record, size: usize, first: &[u16], second: &mut [u16])
 }
 
 // The way back from a finished run, at a size.
-pub fn way_back(run: Record, size: usize, first: &[u16], second: &mut [u16])
+fn way_back(run: Record, size: usize, first: &[u16], second: &mut [u16])
     requires { ⌜ Ready run (now first) (now second) × (size ≤ largestSize) ⌝ }
     ensures { λ _. ⌜ now (second .exit) ≡ wayBack run (now (first .entry)) size ⌝ }
 {
     mark_held(run, size, first, second);
     finish(back_run(run), second);
+}
+
+// Where sizes are found: afterwards the second levels say which points of the frame the size holds.
+pub fn find_size(run: Record, size: usize, first: &[u16], second: &mut [u16])
+    requires { ⌜ Ready run (now first) (now second) × (size ≤ largestSize) ⌝ }
+    ensures { λ _. ⌜ (length (now (second .exit)) ≡ length (now (second .entry))) ×
+        FindsSize run (now (first .entry)) size (now (second .exit)) ⌝ }
+{
+    way_back(run, size, first, second);
 }
 
 // Where the frame lies in the levels after the way back, and between which bounds a level is held there.
@@ -146,14 +156,14 @@ pub fn clear_both(first: &mut [u16], second: &mut [u16])
     clear(second);
 }
 
-// The sheet at a size, from a finished run.
+// The sheet of what a size holds.
 fn sheet_back(run: Record, size: usize, first: &[u16], second: &mut [u16], out: &mut [u8])
     requires { ⌜ Ready run (now first) (now second) ×
         ((size ≤ largestSize) × (length (now out) ≡ run .height * rowBytes (run .width))) ⌝ }
     ensures { λ _. ⌜ (length (now (second .exit)) ≡ length (now (second .entry))) ×
-        (now (out .exit) ≡ keptSheet run (wayBack run (now (first .entry)) size) size) ⌝ }
+        FindsSheet run (now (first .entry)) size (now (out .exit)) ⌝ }
 {
-    way_back(run, size, first, second);
+    find_size(run, size, first, second);
     pack_back(run, size, second, out);
 }
 
@@ -163,7 +173,7 @@ pub fn filter_sheet(run: Record, size: usize, first: &mut [u16], second: &mut [u
         ((size ≤ largestSize) × (length (now out) ≡ run .height * rowBytes (run .width))) ⌝ }
     ensures { λ _. ⌜ (now (first .exit) ≡ replicate (length (now (first .entry))) 0) ×
         ((now (second .exit) ≡ replicate (length (now (second .entry))) 0) ×
-        (now (out .exit) ≡ keptSheet run (wayBack run (now (first .entry)) size) size)) ⌝ }
+        FindsSheet run (now (first .entry)) size (now (out .exit))) ⌝ }
 {
     sheet_back(run, size, first, second, out);
     clear_both(first, second);

@@ -90,15 +90,6 @@ fn store_held(run: Record, size: usize, second: &[u16], out: &mut [u16])
     );
 }
 
-// Where sizes are found: afterwards the second levels say which points of the frame the size holds.
-pub fn find_size(run: Record, size: usize, first: &[u16], second: &mut [u16])
-    requires { ⌜ Ready run (now first) (now second) × (size ≤ largestSize) ⌝ }
-    ensures { λ _. ⌜ (length (now (second .exit)) ≡ length (now (second .entry))) ×
-        FindsSize run (now (first .entry)) size (now (second .exit)) ⌝ }
-{
-    back::way_back(run, size, first, second);
-}
-
 // Stores one size.
 fn one_size(run: Record, size: usize, first: &[u16], second: &mut [u16], out: &mut [u16])
     requires { ⌜ Ready run (now first) (now second) × ((size ≤ largestSize) × (length (now out) ≡ run .height * run .width)) ⌝ }
@@ -106,7 +97,7 @@ fn one_size(run: Record, size: usize, first: &[u16], second: &mut [u16], out: &m
         (FindsSize run (now (first .entry)) size (now (second .exit)) ×
         (now (out .exit) ≡ stored run (now (second .exit)) size (now (out .entry)))) ⌝ }
 {
-    find_size(run, size, first, second);
+    back::find_size(run, size, first, second);
     store_held(run, size, second, out);
 }
 

@@ -1,7 +1,7 @@
 -- What is found at a size, counted: the points whose level is above it. From the highest level of the first run on there is none.
-use Prim.Native.Nat.{ℕ, suc, _+_, _-_, _*_, _≤_, _<_}
+use Prim.Native.Nat.{ℕ, _+_, _-_, _*_, _≤_, _<_}
 use native.Mathlib.Omega.{arith}
-use mathlib.Core.Path.{_≡_, refl, sym, ap, ap₂, _∙_, subst}
+use mathlib.Core.Path.{_≡_, refl, sym, ap, _∙_, subst}
 use mathlib.Core.Bool.{Bool, true, false, cond, _&&_, _||_}
 use mathlib.Core.List.{List}
 use lib.Dec.{leb, ltb, eqb}
@@ -23,10 +23,10 @@ use Rattle.run.specs.Pictures.{frameLevel}
 use Rattle.filters.specs.Filters.{foregroundOf, elementOf}
 use Rattle.filters.specs.Back.{isFound, Highest, Ready, IsHeldPart}
 use Rattle.filters.specs.declared.back.HeldPart.{HeldPart}
-use Rattle.filters.specs.Plans.{firstLevels, FindsSize}
+use Rattle.filters.specs.Plans.{FindsSize}
 use Rattle.filters.proofs.FirstRuns.{opening-small, opening-below}
 use Rattle.spectrum.specs.Counting.{opening, HasLevels, CountsAbove, FillsTable}
-use Rattle.spectrum.proofs.LevelCounts.{same-test, pointsOf, pointsFrom, pointsAbove, from-none, from-split, from-next}
+use Rattle.spectrum.proofs.LevelCounts.{same-test, pointsOf, pointsFrom, from-none, from-split, from-next}
 
 -- of a row no more than all levels are held
 pub one-at-most : (low high level : ℕ) → heldBetween low high level ≤ 1

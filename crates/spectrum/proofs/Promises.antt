@@ -4,11 +4,9 @@ use Prim.Native.Nat.{ℕ, suc, _+_, _-_, _*_, _^_, _≤_, _<_, max}
 use native.Mathlib.Omega.{arith}
 use native.Mathlib.Decide.{decLt}
 use mathlib.Core.Path.{_≡_, refl, sym, ap, ap₂, _∙_, fun-ext}
-use mathlib.Core.Bool.{Bool, true, false}
-use mathlib.Core.Logic.{_↔_}
 use mathlib.Core.List.{List, [], _∷_}
-use lib.Dec.{T, eqb, ltb, le→leb}
-use lib.Ieee.{binary64, ofInt, toUnsigned, inFloat}
+use lib.Dec.{eqb, ltb, le→leb}
+use lib.Ieee.{binary64, inFloat}
 use lib.Ieee.Back.{unsigned-back}
 use lib.IntN.{pos}
 use lib.ListN.{length, getD, replicate}
@@ -20,7 +18,7 @@ use Rattle.basics.specs.Tables.{table, raster}
 use Rattle.basics.proofs.RefusalLaws.{answers-unique}
 use Rattle.basics.proofs.SumLaws.{sum-same, points-same}
 use Rattle.basics.proofs.TableLaws.{length-table, getD-table}
-use Rattle.grid.specs.Points.{Point, at}
+use Rattle.grid.specs.Points.{at}
 use Rattle.grid.specs.Sets.{PointSet}
 use Rattle.grid.specs.Levels.{IsOpeningLevel}
 use Rattle.grid.specs.Starred.{drawn, oneRow, pair, openingLevels}
@@ -34,14 +32,13 @@ use Rattle.element.proofs.Accepted.{accepted-origin, accepted-other}
 use Rattle.sheet.specs.Sheets.{pixel, packed, packedByte, isSideOut}
 use Rattle.sheet.specs.SamePixels.{SamePixels}
 use Rattle.sheet.proofs.SamePixelsLaws.{same-set}
-use Rattle.run.proofs.RecordLaws.{area-small}
 use Rattle.filters.specs.declared.Input.{Input}
 use Rattle.filters.specs.Filters.{Buffers, Cleared, OpeningLevels, frameSize, foregroundOf, elementOf}
 use Rattle.filters.specs.StarredFilters.{Fits, left}
 use Rattle.filters.proofs.Refusing.{answers-carried}
 use Rattle.filters.proofs.StarredFilters.{every-starred-case}
 use Rattle.spectrum.specs.declared.Summary.{Summary}
-use Rattle.spectrum.specs.Spectrum.{IsSpectrum, foregroundPoints, levelsAdded, fraction, summaryOf, isBlank, spectrumRefusals}
+use Rattle.spectrum.specs.Spectrum.{IsSpectrum, foregroundPoints, fraction, summaryOf, isBlank, spectrumRefusals}
 use Rattle.spectrum.specs.Spectrum.{exactLimit, GivesSpectrum}
 use Rattle.spectrum.specs.Counting.{IsTable}
 use Rattle.spectrum.specs.Promises.{OfEveryTable, AddsUp, Exact, NothingLost, CountsTransform, PaddingIgnored, CaseSixGiven}

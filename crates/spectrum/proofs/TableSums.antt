@@ -3,10 +3,9 @@ use Prim.Native.Nat.{ℕ, suc, _+_, _-_, _*_, _≤_, _<_}
 use native.Mathlib.Nat.{mul-le-mul}
 use native.Mathlib.Numerals.{add-one}
 use native.Mathlib.Omega.{arith}
-use mathlib.Core.Path.{_≡_, refl, sym, ap, _∙_}
+use mathlib.Core.Path.{_≡_, sym, ap, _∙_}
 use mathlib.Core.List.{List}
 use lib.ListN.{length, getD}
-use Rattle.basics.specs.Limits.{longestSide}
 use Rattle.basics.specs.Sums.{sum}
 use Rattle.basics.proofs.SumLaws.{sum-same, sum-front, sum-part, sum-term, sum-weighed}
 use Rattle.spectrum.specs.Spectrum.{foregroundPoints, levelsAdded, exactLimit}

@@ -71,7 +71,7 @@ fn points_above(run: Record, size: usize, most: usize, first: &[u16], second: &m
     if most <= size {
         return 0;
     }
-    filters::levels::find_size(run, size, first, second);
+    filters::back::find_size(run, size, first, second);
     count_found(run, size, second)
 }
 

@@ -7,7 +7,6 @@ use filters::Input;
 use filters::judging::Plan;
 ghost use mathlib.Core.Path.{_≡_};
 ghost use Prim.Native.Nat.{max};
-ghost use lib.ListN.{length};
 ghost use Rattle.basics.specs.Refusals.{first};
 ghost use Rattle.spectrum.specs.Spectrum.{refusalsBy, noSummary, GivesSpectrum};
 ghost use Rattle.spectrum.specs.Counting.{opening};

@@ -1,17 +1,13 @@
--- The two steps, one after the other.
-use Rattle.filters.proofs.BackSteps.{after-back}
-use Rattle.filters.specs.Back.{keptSheet}
+-- What is found is packed.
+use Rattle.filters.proofs.SheetAnswers.{kept-sheet}
 use borrow.Author.Needs.{needs}
 use Rattle.filters.proofs.back.sheet_back.Statement.{statement}
 use Rattle.filters.proofs.back.sheet_back.Tie as tie
 
 returns : tie.Need-returns
 returns c =
-    let args = c .before .before .before .before .before .before .before .before .before .before .before .before .args in
-    let pre = c .before .before .before .before .before .before .before .before .before .before .before .before .pre in
-    let way-back = c .before .before .before .before .before .before .before .way-back in
-    after-back (args .size) (λ l. keptSheet (args .run) l (args .size)) (pre .0) (way-back .ensures)
-    (c .before .before .pack-back .ensures)
+    let found = c .before .before .before .before .before .before .before .find-size in
+    (found .ensures .0, kept-sheet (found .last .1 .1 .1 .0) (found .ensures .1) (c .before .before .pack-back .ensures))
 
 pub sheet-back-spec : {M : Type 1} → statement M
 sheet-back-spec =

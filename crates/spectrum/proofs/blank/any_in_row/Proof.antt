@@ -5,7 +5,7 @@ use Rattle.basics.proofs.SumLaws.{sum-none}
 use Rattle.sheet.specs.Sheets.{pixel}
 use borrow.Author.Needs.{needs}
 use native.Mathlib.Omega.{arith}
-use Prim.Native.Nat.{_+_, _-_, _≤_}
+use Prim.Native.Nat.{_-_, _≤_}
 use mathlib.Core.Path.{_≡_, sym, ap, _∙_}
 use mathlib.Core.Bool.{cond}
 use lib.Dec.{eqb, ltb}

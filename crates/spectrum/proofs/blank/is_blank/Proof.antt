@@ -6,7 +6,7 @@ use Rattle.run.proofs.PatchLaws.{row-end}
 use Rattle.sheet.specs.Sheets.{rowBytes}
 use borrow.Author.Needs.{needs}
 use native.Mathlib.Omega.{arith}
-use Prim.Native.Nat.{_+_, _-_, _≤_}
+use Prim.Native.Nat.{_-_, _≤_}
 use mathlib.Core.Path.{_≡_}
 use Rattle.spectrum.proofs.blank.is_blank.Statement.{statement}
 use Rattle.spectrum.proofs.blank.is_blank.Tie as tie

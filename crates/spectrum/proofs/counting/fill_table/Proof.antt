@@ -3,8 +3,8 @@ use Rattle.spectrum.proofs.Finding.{Tables, tables-start, fewer, tables
 use Rattle.run.proofs.RecordLaws.{sound, area-small}
 use borrow.Author.Needs.{needs}
 use native.Mathlib.Omega.{arith}
-use Prim.Native.Nat.{_-_, _≤_}
-use mathlib.Core.Path.{_≡_, refl, sym, _∙_}
+use Prim.Native.Nat.{_-_}
+use mathlib.Core.Path.{refl, sym, _∙_}
 use lib.ListN.{length}
 use Rattle.spectrum.proofs.counting.fill_table.Statement.{statement}
 use Rattle.spectrum.proofs.counting.fill_table.Tie as tie

@@ -5,7 +5,7 @@ use Rattle.basics.specs.Sums.{sum}
 use Rattle.basics.proofs.SumLaws.{sum-none}
 use borrow.Author.Needs.{needs}
 use native.Mathlib.Omega.{arith}
-use Prim.Native.Nat.{ℕ, _+_, _-_, _*_, _≤_}
+use Prim.Native.Nat.{_-_, _*_, _≤_}
 use mathlib.Core.Path.{_≡_, refl, sym}
 use lib.ListN.{length, getD}
 use Rattle.spectrum.proofs.fractions.levels_added.Statement.{statement}

@@ -5,7 +5,7 @@ use Rattle.spectrum.specs.declared.Summary.{Summary}
 use borrow.Author.Needs.{needs}
 use native.Mathlib.Omega.{arith}
 use Prim.Native.Nat.{_≤_}
-use mathlib.Core.Path.{_≡_, sym, ap, ap₂, _∙_, subst}
+use mathlib.Core.Path.{sym, ap, ap₂, _∙_, subst}
 use lib.Ieee.{Float}
 use lib.ListN.{getD}
 use Rattle.spectrum.proofs.fractions.summary_of.Statement.{statement}
