@@ -1,5 +1,7 @@
 //! One call of the library with everything that is lent to it.
 
+use std::fmt;
+
 /// The reason that a map gives a foreground point a size above the cap. Its number is 8, as the cap's own is, but it is
 /// judged last, so it stands in the lists of refusals, and is counted, as one of its own.
 pub const SIZE_OF_MAP: u32 = 108;
@@ -9,6 +11,24 @@ pub fn number_of(reason: u32) -> u32 {
     match reason {
         SIZE_OF_MAP => 8,
         number => number,
+    }
+}
+
+/// A double, kept as its bits: two are the same where all their bits are, also where they are no numbers, and what a
+/// slice of them held is told from anything that was computed.
+#[derive(Clone, Copy, PartialEq, Eq)]
+#[repr(transparent)]
+pub struct Double(pub u64);
+
+impl Double {
+    pub fn of(value: f64) -> Double {
+        Double(value.to_bits())
+    }
+}
+
+impl fmt::Debug for Double {
+    fn fmt(&self, formatter: &mut fmt::Formatter) -> fmt::Result {
+        write!(formatter, "{:?} ({:#018x})", f64::from_bits(self.0), self.0)
     }
 }
 
@@ -26,6 +46,7 @@ pub enum Name {
     Close,
     OpeningLevels,
     ClosingLevels,
+    Spectrum,
     DilateByMap,
     Reflect,
     ReadPbm,
@@ -48,10 +69,12 @@ pub enum Field {
     BytesOut,
     LevelsOut,
     WordsOut,
+    Table,
+    Summary,
 }
 
 impl Name {
-    pub const ALL: [Name; 16] = [
+    pub const ALL: [Name; 17] = [
         Name::StartErosion,
         Name::StartDilation,
         Name::StartCropped,
@@ -63,6 +86,7 @@ impl Name {
         Name::Close,
         Name::OpeningLevels,
         Name::ClosingLevels,
+        Name::Spectrum,
         Name::DilateByMap,
         Name::Reflect,
         Name::ReadPbm,
@@ -83,6 +107,7 @@ impl Name {
             Name::Close => "wt_close",
             Name::OpeningLevels => "wt_opening_levels",
             Name::ClosingLevels => "wt_closing_levels",
+            Name::Spectrum => "wt_spectrum",
             Name::DilateByMap => "wt_dilate_by_map",
             Name::Reflect => "wt_reflect",
             Name::ReadPbm => "wt_read_pbm",
@@ -104,6 +129,7 @@ impl Name {
             Name::Open => &[2, 3, 4, 5, 6, 7, 8, 10, 11],
             Name::OpeningLevels => &[2, 3, 4, 5, 6, 7, 10, 11],
             Name::Close | Name::ClosingLevels => &[2, 3, 4, 5, 6, 7, 8, 9, 10, 11],
+            Name::Spectrum => &[2, 3, 4, 5, 6, 7, 10, 11, 14],
             Name::DilateByMap => &[2, 3, 4, 5, 6, 7, 8, 9, 10, 11, SIZE_OF_MAP],
             Name::Reflect => &[4, 5, 6, 7, 11],
             Name::ReadPbm => &[21, 22, 2, 23, 24, 11],
@@ -115,7 +141,8 @@ impl Name {
     /// The slices the call lends.
     pub fn fields(self) -> &'static [Field] {
         use Field::{
-            BytesOut, Cells, File, Levels, LevelsOut, Map, Record, Sheet, WordsOut, WorkA, WorkB,
+            BytesOut, Cells, File, Levels, LevelsOut, Map, Record, Sheet, Summary, Table, WordsOut,
+            WorkA, WorkB,
         };
         match self {
             Name::StartErosion | Name::StartDilation | Name::StartCropped => {
@@ -126,6 +153,7 @@ impl Name {
             Name::Threshold => &[Record, Levels, BytesOut],
             Name::Open | Name::Close => &[Sheet, Cells, WorkA, WorkB, BytesOut],
             Name::OpeningLevels | Name::ClosingLevels => &[Sheet, Cells, WorkA, WorkB, LevelsOut],
+            Name::Spectrum => &[Sheet, Cells, WorkA, WorkB, Table, Summary],
             Name::DilateByMap => &[Sheet, Cells, Map, WorkA, BytesOut],
             Name::Reflect => &[Cells, BytesOut],
             Name::ReadPbm => &[File, BytesOut, WordsOut],
@@ -203,6 +231,10 @@ pub struct Call {
     pub levels_out: Vec<u16>,
     /// A start's record, `done`, `state`, `frame` or `length`.
     pub words_out: Vec<u64>,
+    /// How many points have each opening level.
+    pub table: Vec<u64>,
+    /// The mean opening level, and the share at level 1.
+    pub summary: Vec<Double>,
 }
 
 impl Call {
@@ -224,6 +256,8 @@ impl Call {
             bytes_out: Vec::new(),
             levels_out: Vec::new(),
             words_out: Vec::new(),
+            table: Vec::new(),
+            summary: Vec::new(),
         }
     }
 
@@ -240,6 +274,8 @@ impl Call {
             Field::BytesOut => self.bytes_out.len(),
             Field::LevelsOut => self.levels_out.len(),
             Field::WordsOut => self.words_out.len(),
+            Field::Table => self.table.len(),
+            Field::Summary => self.summary.len(),
         }
     }
 
@@ -266,6 +302,8 @@ impl Call {
             Field::BytesOut => resize(&mut self.bytes_out, length, byte),
             Field::LevelsOut => resize(&mut self.levels_out, length, level),
             Field::WordsOut => resize(&mut self.words_out, length, word),
+            Field::Table => resize(&mut self.table, length, word),
+            Field::Summary => resize(&mut self.summary, length, |index| Double(word(index))),
         }
     }
 }

@@ -1,11 +1,13 @@
 //! The small sheets that document 01 works by hand, and the largest sheets accepted, with answers written out here.
 
-use crate::call::{Call, Field, Name};
+use crate::call::{Call, Double, Field, Name};
 use crate::raw::perform;
 use crate::report::Tally;
 
 /// The origin with its right neighbour.
 const T: [u8; 9] = [0, 0, 0, 0, 1, 1, 0, 0, 0];
+/// The origin with the point below it.
+const UPRIGHT: [u8; 9] = [0, 0, 0, 0, 1, 0, 0, 1, 0];
 const CROSS: [u8; 9] = [0, 1, 0, 1, 1, 1, 0, 1, 0];
 const BOX: [u8; 9] = [1; 9];
 /// The origin, right-down, and left: two steps lead one down, by way of the next column.
@@ -76,6 +78,8 @@ fn given(name: Name, sheet: &Drawn, cells: &[u8], number: u64) -> Call {
         (Field::BytesOut, sheet.bytes.len()),
         (Field::LevelsOut, frame),
         (Field::WordsOut, 56),
+        (Field::Table, count(sheet.width.max(sheet.height)) + 1),
+        (Field::Summary, 2),
     ] {
         if name.fields().contains(&field) {
             call.set_length(field, length);
@@ -470,17 +474,12 @@ fn sizes_and_padding() -> bool {
         && shows(&of_points(1, [0, 1, 1]), &["100000111", "000000011"])
 }
 
-/// One fault that a dilation by a map can have, and the number that it gives.
+/// One fault that a call can have, and the number that it gives.
 type Fault = (u32, fn(&mut Call));
 
-/// From the last to be judged to the first. None mends another that can stand beside it.
-const FAULTS: [Fault; 13] = [
-    (8, |call| call.map[1] = 65535),
-    (11, |call| call.bytes_out.push(0)),
-    (10, |call| call.work_a.push(0)),
-    (10, |call| call.map.push(0)),
-    (9, |call| call.number = 2047),
-    (8, |call| call.number = 2048),
+/// The faults of a sheet and an element, from the last to be judged to the first. None mends another that can stand beside
+/// it, nor do those of single calls.
+const FAULTS: [Fault; 7] = [
     (7, |call| call.cells = vec![0, 0, 0, 0, 1, 0, 0, 0, 0]),
     (6, |call| call.cells[4] = 0),
     (5, |call| call.cells[0] = 2),
@@ -490,17 +489,34 @@ const FAULTS: [Fault; 13] = [
     (2, |call| call.width = 0),
 ];
 
-/// Each fault alone gives its number, and so it does beside all those that are judged after it.
+/// The faults of a dilation by a map that are judged after those of its sheet and its element.
+const FAULTS_OF_MAPS: [Fault; 6] = [
+    (8, |call| call.map[1] = 65535),
+    (11, |call| call.bytes_out.push(0)),
+    (10, |call| call.work_a.push(0)),
+    (10, |call| call.map.push(0)),
+    (9, |call| call.number = 2047),
+    (8, |call| call.number = 2048),
+];
+
+/// Each fault alone gives its number, and so it does beside each of those that are judged after it, and beside them all.
+fn each_refused(sound: &Call, last_faults: &[Fault]) -> bool {
+    let faults = [last_faults, &FAULTS].concat();
+    faults.iter().enumerate().all(|(place, (number, fault))| {
+        let refused_beside = |others: &[Fault]| {
+            let mut call = sound.clone();
+            others.iter().for_each(|(_, other)| other(&mut call));
+            fault(&mut call);
+            refused(&call, *number)
+        };
+        let later = &faults[..place];
+        refused_beside(&[]) && later.chunks(1).all(refused_beside) && refused_beside(later)
+    })
+}
+
 fn sizes_refused() -> bool {
     let sound = by_map(&drawn(&["010"]), &T, 1, &[65535, 1, 65535]);
-    let mut worse = sound.clone();
-    shows(&sound, &["011"])
-        && FAULTS.into_iter().all(|(number, fault)| {
-            let mut alone = sound.clone();
-            fault(&mut alone);
-            fault(&mut worse);
-            refused(&alone, number) && refused(&worse, number)
-        })
+    shows(&sound, &["011"]) && each_refused(&sound, &FAULTS_OF_MAPS)
 }
 
 /// The ends of the ranges of sizes, caps, frames and lengths.
@@ -528,6 +544,139 @@ fn ends_of_sizes() -> bool {
         && number(4097, 0) == 2
         && number(4094, 1) == 0
         && number(4095, 1) == 9
+}
+
+/// A double that is no number, and signalling: it stays what it is only where nothing is computed of it.
+const NO_NUMBER: Double = Double(0x7FF0_0000_0000_0801);
+
+/// The spectrum of a sheet. What its answer slices hold before must not show.
+fn spectrum(sheet: &Drawn, cells: &[u8]) -> Call {
+    let mut call = given(Name::Spectrum, sheet, cells, 0);
+    call.table.fill(u64::MAX);
+    call.summary.fill(NO_NUMBER);
+    call
+}
+
+/// Whether a spectrum is accepted with this table and, bit for bit, this mean and share, and leaves its work buffers zero
+/// and the rest as it was.
+fn counts(call: &Call, table: &[u64], summary: [f64; 2]) -> bool {
+    let mut expected = call.clone();
+    expected.table = table.to_vec();
+    expected.summary = summary.map(Double::of).to_vec();
+    expected.work_a.fill(0);
+    expected.work_b.fill(0);
+    number_and_after(call) == (0, expected)
+}
+
+/// The row of case 6; rows of which both fractions have to be rounded: 5 by 3 is rounded up and 1 by 3 down, 17 by 5 down
+/// and 1 by 5 up; and a corner, which the element fits as it is but not turned.
+fn spectra_by_hand() -> bool {
+    let of_row = |row| spectrum(&drawn(&[row]), &T);
+    let of_corner = |rows: &[&str]| spectrum(&drawn(rows), &[0, 0, 0, 0, 1, 1, 0, 1, 0]);
+    let thirds = [0x3FFA_AAAA_AAAA_AAAB, 0x3FD5_5555_5555_5555].map(f64::from_bits);
+    counts(&of_row("10111"), &[1, 1, 0, 3, 0, 0], [2.5, 0.25])
+        && counts(&of_row("1011"), &[1, 1, 2, 0, 0], thirds)
+        && counts(&of_row("101111"), &[1, 1, 0, 0, 4, 0, 0], [3.4, 0.2])
+        && counts(&of_corner(&["11", "10"]), &[1, 0, 3], [2.0, 0.0])
+        && counts(&of_corner(&["01", "11"]), &[1, 3, 0], [1.0, 1.0])
+}
+
+/// Full sheets: 3 by 3 opened by the cross is the cross, opened by the box it is all. The table goes by the larger side,
+/// whichever side the levels go by.
+fn spectra_of_full_sheets() -> bool {
+    let of_full = |width, height, cells| spectrum(&full(width, height), cells);
+    // 14 by 9 and 4 by 9.
+    let ninths = [0x3FF8_E38E_38E3_8E39, 0x3FDC_71C7_1C71_C71C].map(f64::from_bits);
+    counts(&of_full(1, 1, &BOX), &[0, 1], [1.0, 1.0])
+        && counts(&of_full(3, 3, &CROSS), &[0, 4, 5, 0], ninths)
+        && counts(&of_full(3, 3, &BOX), &[0, 0, 9, 0], [2.0, 0.0])
+        && counts(&of_full(3, 2, &T), &[0, 0, 0, 6], [3.0, 0.0])
+        && counts(&of_full(2, 3, &T), &[0, 0, 6, 0], [2.0, 0.0])
+        && counts(&of_full(3, 2, &UPRIGHT), &[0, 0, 6, 0], [2.0, 0.0])
+        && counts(&of_full(2, 3, &UPRIGHT), &[0, 0, 0, 6], [3.0, 0.0])
+}
+
+/// Every row and every column of ten points: those of a stretch of n are of level n.
+fn spectra_of_rows() -> bool {
+    (1..1 << 10).all(|number| {
+        let row = format!("{number:010b}");
+        let column: Vec<&str> = (0..10).map(|place| &row[place..=place]).collect();
+        let mut table = [0; 11];
+        for stretch in row.split('0') {
+            table[stretch.len()] += stretch.len() as u64;
+        }
+        table[0] = row.matches('0').count() as u64;
+        let sum: u64 = (0..).zip(table).map(|(level, entry)| level * entry).sum();
+        let foreground = (10 - table[0]) as f64;
+        let summary = [sum as f64 / foreground, table[1] as f64 / foreground];
+        counts(&spectrum(&drawn(&[&row]), &T), &table, summary)
+            && counts(&spectrum(&drawn(&column), &UPRIGHT), &table, summary)
+    })
+}
+
+/// A blank sheet is refused, whatever its padding bits are; one point is foreground enough, wherever it lies.
+fn blank_spectra() -> bool {
+    let mut table = [0; 14];
+    [table[0], table[1]] = [38, 1];
+    [0, 0x01, 0x07].into_iter().all(|padding| {
+        // Thirteen columns, so that three bits pad each row.
+        let mut blank = drawn(&["0000000000000"; 3]);
+        for row in blank.bytes.chunks_mut(2) {
+            row[1] = padding;
+        }
+        let mut one_point = (0..39).map(|place| {
+            let (row, column) = (place / 13, place % 13);
+            let mut call = spectrum(&blank, &CROSS);
+            call.sheet[2 * row + column / 8] |= 0x80 >> (column % 8);
+            call
+        });
+        refused(&spectrum(&blank, &CROSS), 14)
+            && one_point.all(|call| counts(&call, &table, [1.0, 1.0]))
+    }) && refused(&spectrum(&drawn(&["0"]), &T), 14)
+        && refused(&spectrum(&drawn(&["00000000"]), &T), 14)
+}
+
+/// The faults of a spectrum that are judged after those of its sheet and its element.
+const FAULTS_OF_SPECTRA: [Fault; 5] = [
+    (14, |call| call.sheet.fill(0)),
+    (11, |call| call.summary.push(NO_NUMBER)),
+    (11, |call| call.table.push(0)),
+    (10, |call| call.work_b.push(0)),
+    (10, |call| call.work_a.push(0)),
+];
+
+fn spectra_refused() -> bool {
+    let sound = spectrum(&drawn(&["10111"]), &T);
+    counts(&sound, &[1, 1, 0, 3, 0, 0], [2.5, 0.25]) && each_refused(&sound, &FAULTS_OF_SPECTRA)
+}
+
+/// Whether a slice of a spectrum is refused with this number at every length but the one due.
+fn only_length(field: Field, due: usize, number: u32) -> bool {
+    // Wider than high, and higher than wide.
+    [full(5, 2), full(2, 5)].iter().all(|sheet| {
+        (0..2 * due + 2).all(|length| {
+            let mut call = spectrum(sheet, &CROSS);
+            call.set_length(field, length);
+            if length == due {
+                number_and_after(&call).0 == 0
+            } else {
+                refused(&call, number)
+            }
+        })
+    })
+}
+
+/// The ends of the ranges of frames and lengths.
+fn ends_of_spectra() -> bool {
+    let number = |width, height| number_and_after(&spectrum(&full(width, height), &CROSS)).0;
+    only_length(Field::WorkA, 10, 10)
+        && only_length(Field::WorkB, 10, 10)
+        && only_length(Field::Table, 6, 11)
+        && only_length(Field::Summary, 2, 11)
+        && number(4096, 1) == 0
+        && number(1, 4096) == 0
+        && number(4097, 1) == 2
+        && number(1, 4097) == 2
 }
 
 /// The largest sheet, full, with the box: the level is the distance to the nearest border.
@@ -607,9 +756,27 @@ fn longest_opening() -> bool {
     row == vec![4096; 4096] && opened(4095) == vec![255; 512] && opened(4096) == vec![0; 512]
 }
 
+/// A full row of 4,096 with its right neighbour: all points are of the last entry's level.
+fn longest_spectrum() -> bool {
+    let mut table = vec![0; 4097];
+    table[4096] = 4096;
+    counts(&spectrum(&full(4096, 1), &T), &table, [4096.0, 0.0])
+}
+
+/// A square of 300 by 300, a blank column, and a column of points: more points than 16 bits count.
+fn most_points() -> bool {
+    let row = format!("{}01", "1".repeat(300));
+    let sheet = drawn(&[row.as_str(); 300]);
+    let mut table = [0; 303];
+    [table[0], table[1], table[150]] = [300, 300, 90_000];
+    // 13,500,300 by 90,300, and 300 by 90,300.
+    let summary = [0x4062_B028_D2EC_7044, 0x3F6B_3748_4AD8_06CE].map(f64::from_bits);
+    counts(&spectrum(&sheet, &BOX), &table, summary)
+}
+
 type Case = (&'static str, fn() -> bool);
 
-const CASES: [Case; 28] = [
+const CASES: [Case; 36] = [
     ("case 1: full 3 by 3, cross", case_1),
     ("case 2: full 5 by 1, right neighbour", case_2),
     ("case 3: the same, reflected", case_3),
@@ -633,11 +800,19 @@ const CASES: [Case; 28] = [
     ("maps: padding bits, and cap 0", sizes_and_padding),
     ("maps: each refusal, and their order", sizes_refused),
     ("maps: the ends of the ranges", ends_of_sizes),
+    ("spectrum: by hand, bit for bit", spectra_by_hand),
+    ("spectrum: full sheets by hand", spectra_of_full_sheets),
+    ("spectrum: all rows and columns of ten", spectra_of_rows),
+    ("spectrum: blank sheets, padding, one point", blank_spectra),
+    ("spectrum: each refusal, and their order", spectra_refused),
+    ("spectrum: the ends of the ranges", ends_of_spectra),
     ("largest frame: erosion of 4,096 by 4,096", largest_erosion),
     ("largest canvas: dilation with cap 2,047", largest_dilation),
     ("longest crop: a row of 2,050 with cap 1,023", longest_crop),
     ("longest map: a row of 2,050 with cap 1,023", longest_map),
     ("longest opening: sizes up to 4,096", longest_opening),
+    ("longest spectrum: levels of 4,096", longest_spectrum),
+    ("most points: a spectrum of 90,300", most_points),
 ];
 
 pub fn check_cases(tally: &mut Tally) {

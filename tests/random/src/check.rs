@@ -57,17 +57,22 @@ pub fn print_small(test: &str, call: &Call, compare: impl Fn(&Call) -> Result<()
     print!("{}", compare(&small).err().unwrap_or_default());
 }
 
-/// The sheet that a call answers, where it is accepted.
-pub fn answer(call: &Call) -> Result<Vec<u8>, String> {
+/// What a call leaves, where it is accepted.
+pub fn accepted(call: &Call) -> Result<Call, String> {
     let (number, after) = perform(call)?;
     match number {
-        0 => Ok(after.bytes_out),
+        0 => Ok(after),
         number => Err(format!(
             "    {} of {}: refused with {number}\n",
             call.name.function(),
             call.number
         )),
     }
+}
+
+/// The sheet that a call answers, where it is accepted.
+pub fn answer(call: &Call) -> Result<Vec<u8>, String> {
+    Ok(accepted(call)?.bytes_out)
 }
 
 /// A sound call of every function, and damaged ones.

@@ -3,6 +3,7 @@
 use crate::call::{Call, Field, Name};
 use crate::dice::Dice;
 use crate::rules::{frame_points, sound_sheet_set, Record, EDGE_RULE};
+use crate::sound::set_padding;
 
 /// Damages a call in one way. What comes of it (another refusal, or none) is for the rules to judge.
 pub fn damage(dice: &mut Dice, call: &mut Call) {
@@ -30,6 +31,11 @@ pub fn damage(dice: &mut Dice, call: &mut Call) {
         kinds.push(damage_map);
         kinds.push(damage_map);
         kinds.push(damage_map_length);
+    }
+    if call.name == Name::Spectrum {
+        kinds.push(damage_foreground);
+        kinds.push(damage_foreground);
+        kinds.push(damage_table);
     }
     if call.name == Name::WritePgm {
         kinds.push(damage_levels);
@@ -240,6 +246,25 @@ fn damage_map_length(dice: &mut Dice, call: &mut Call) {
     let (map, work) = dice.pick(&[(work, work), (map, map), (work, map)]);
     call.set_length(Field::Map, map);
     call.set_length(Field::WorkA, work);
+}
+
+/// A sheet without foreground, whose padding bits are any.
+fn damage_foreground(dice: &mut Dice, call: &mut Call) {
+    if sound_sheet_set(call).is_some() {
+        call.sheet.fill(0);
+        set_padding(dice, call.width, &mut call.sheet);
+    }
+}
+
+/// A table without an entry for the background or with one too many, of another side, or of the largest frame.
+fn damage_table(dice: &mut Dice, call: &mut Call) {
+    let sides = [call.width, call.height];
+    if let [Ok(width), Ok(height)] = sides.map(u16::try_from) {
+        let (width, height) = (usize::from(width), usize::from(height));
+        let larger = width.max(height);
+        let lengths = [larger, larger + 2, width + 1, height + 1, 4097];
+        call.set_length(Field::Table, dice.pick(&lengths));
+    }
 }
 
 fn damage_file(dice: &mut Dice, call: &mut Call) {

@@ -1,6 +1,6 @@
 //! Everything there is on a small scale: all sheets of a few points with all elements of side 3 and all maps of sizes up to
-//! 2, all changes of one byte in the header of a file, all columns of rows of up to five bytes, and all kinds with all edge
-//! rules.
+//! 2, the spectra of all sheets of 3 by 3, all changes of one byte in the header of a file, all columns of rows of up to
+//! five bytes, and all kinds with all edge rules.
 
 use crate::call::{Call, Field, Name};
 use crate::check::{check, check_run};
@@ -45,6 +45,17 @@ fn maps(held: &[bool]) -> Vec<Vec<u16>> {
     })
 }
 
+/// A call of a sheet with an element of side 3, and the number that it takes.
+fn small_call(name: Name, frame: (u64, u64), sheet: &[u8], cells: &[u8], number: u64) -> Call {
+    let mut call = Call::new(name);
+    (call.width, call.height) = frame;
+    call.sheet = sheet.to_vec();
+    (call.side, call.cells) = (3, cells.to_vec());
+    call.number = number;
+    lend_due_lengths(&mut call);
+    call
+}
+
 pub fn check_small_sheets(tally: &mut Tally) {
     let elements = elements();
     for (width, height) in FRAMES {
@@ -55,18 +66,13 @@ pub fn check_small_sheets(tally: &mut Tally) {
             let maps = maps(&held);
             for cells in &elements {
                 let make = |name: Name, number: u64| {
-                    let mut call = Call::new(name);
-                    (call.width, call.height) = (width, height);
-                    call.sheet.clone_from(&sheet);
-                    (call.side, call.cells) = (3, cells.clone());
-                    call.number = number;
-                    lend_due_lengths(&mut call);
-                    call
+                    small_call(name, (width, height), &sheet, cells, number)
                 };
                 check(tally, &make(Name::Open, 1));
                 check(tally, &make(Name::Close, 1));
                 check(tally, &make(Name::OpeningLevels, 0));
                 check(tally, &make(Name::ClosingLevels, 2));
+                check(tally, &make(Name::Spectrum, 0));
                 for map in &maps {
                     let mut call = make(Name::DilateByMap, 2);
                     call.map.clone_from(map);
@@ -78,6 +84,19 @@ pub fn check_small_sheets(tally: &mut Tally) {
                     check_looks(tally, &start, Cuts::EveryRow);
                 }
             }
+        }
+    }
+}
+
+/// The spectra of all sheets of 3 by 3, as few of the smaller sheets have points above level 1.
+pub fn check_small_spectra(tally: &mut Tally) {
+    for cells in elements() {
+        for number in 0..1 << 9 {
+            let sheet = pack(3, &flags(number, 9));
+            check(
+                tally,
+                &small_call(Name::Spectrum, (3, 3), &sheet, &cells, 0),
+            );
         }
     }
 }

@@ -1,5 +1,7 @@
 //! A lent slice with guard zones on both sides, so that a write beyond either end is seen.
 
+use crate::call::Double;
+
 /// Elements on each side: more than a row of any small sheet, so that a row too many is caught too.
 const ZONE: usize = 96;
 
@@ -23,6 +25,12 @@ impl Pattern for u16 {
 impl Pattern for u64 {
     fn at(place: usize) -> u64 {
         (place as u64).wrapping_mul(0x9E37_79B9_7F4A_7C15) ^ 0x5555
+    }
+}
+
+impl Pattern for Double {
+    fn at(place: usize) -> Double {
+        Double(u64::at(place))
     }
 }
 

@@ -5,9 +5,10 @@
 //! First come the sheets worked by hand, the largest sheets, and all calls of a small scale; then the random rounds.
 //! Every round makes random calls of every function, sound and damaged, and compares the number and every lent slice
 //! with what the rules say; it works runs of all kinds, whole and in slices, looks at them at their cuts, and compares
-//! them with the definitions; it chains filters; and it compares maps with one another and with runs. The same seed and
-//! rounds give the same calls. `--trace` prints each call to standard error before it is made, for a library that crashes.
-//! The last line is `random: N passed, M failed`, and the exit status is 0 exactly when M is 0.
+//! them with the definitions; it chains filters; and it compares maps with one another and with runs, and spectra with
+//! opening levels and openings. The same seed and rounds give the same calls. `--trace` prints each call to standard error
+//! before it is made, for a library that crashes. The last line is `random: N passed, M failed`, and the exit status is 0
+//! exactly when M is 0.
 #![deny(unsafe_code)]
 
 mod call;
@@ -28,6 +29,7 @@ mod report;
 mod rules;
 mod shrink;
 mod sound;
+mod spectrum;
 
 use std::env;
 use std::process::ExitCode;
@@ -106,6 +108,9 @@ fn expected_tests() -> Tally {
     }
     tally.expect(maps::ONE_SIZE.to_string());
     tally.expect(maps::BACKGROUND.to_string());
+    for test in spectrum::TESTS {
+        tally.expect(test.to_string());
+    }
     tally
 }
 
@@ -124,6 +129,7 @@ fn main() -> ExitCode {
     tally.traced = options.traced;
     cases::check_cases(&mut tally);
     exhaustive::check_small_sheets(&mut tally);
+    exhaustive::check_small_spectra(&mut tally);
     exhaustive::check_headers(&mut tally);
     exhaustive::check_columns(&mut tally);
     exhaustive::check_edge_rules(&mut tally);
@@ -144,6 +150,7 @@ fn main() -> ExitCode {
         check::check_there_and_back(&mut tally, &mut dice, scale);
         chains::check_chains(&mut tally, &mut dice, scale);
         maps::check_maps(&mut tally, &mut dice, scale);
+        spectrum::check_spectra(&mut tally, &mut dice, scale);
     }
     println!("{:<52} {:>9}", "test", "tries");
     let (passed, failed) = tally.print();

@@ -24,6 +24,8 @@ pub fn perform(call: &Call) -> Result<(u32, Call), String> {
     let mut bytes_out = Guarded::new(&call.bytes_out);
     let mut levels_out = Guarded::new(&call.levels_out);
     let mut words_out = Guarded::new(&call.words_out);
+    let mut table = Guarded::new(&call.table);
+    let mut summary = Guarded::new(&call.summary);
 
     let (width, height, side, number) = (call.width, call.height, call.side, call.number);
     let (sheet_at, sheet_len) = sheet.lend();
@@ -37,8 +39,11 @@ pub fn perform(call: &Call) -> Result<(u32, Call), String> {
     let (bytes_at, bytes_len) = bytes_out.lend();
     let (out_at, out_len) = levels_out.lend();
     let (words_at, words_len) = words_out.lend();
+    let (table_at, table_len) = table.lend();
+    let (summary_at, summary_len) = summary.lend();
 
-    // Every pointer goes over with the count that belongs to it, and no two slices share a place.
+    // Every pointer goes over with the count that belongs to it, and no two slices share a place. A `Double` lies in memory
+    // as the double with its bits does.
     #[rustfmt::skip]
     let answer = unsafe {
         match call.name {
@@ -62,6 +67,8 @@ pub fn perform(call: &Call) -> Result<(u32, Call), String> {
                 a_at, a_len, b_at, b_len, out_at, out_len),
             Name::ClosingLevels => c::wt_closing_levels(width, height, sheet_at, sheet_len, side, cells_at, cells_len,
                 number, a_at, a_len, b_at, b_len, out_at, out_len),
+            Name::Spectrum => c::wt_spectrum(width, height, sheet_at, sheet_len, side, cells_at, cells_len,
+                a_at, a_len, b_at, b_len, table_at, table_len, summary_at.cast(), summary_len),
             Name::DilateByMap => c::wt_dilate_by_map(width, height, sheet_at, sheet_len, side, cells_at, cells_len, number,
                 map_at, map_len, a_at, a_len, bytes_at, bytes_len),
             Name::Reflect => c::wt_reflect(side, cells_at, cells_len, bytes_at, bytes_len),
@@ -85,6 +92,8 @@ pub fn perform(call: &Call) -> Result<(u32, Call), String> {
         bytes_out: taken(bytes_out, "the answer's bytes")?,
         levels_out: taken(levels_out, "the answer's levels")?,
         words_out: taken(words_out, "the answer's words")?,
+        table: taken(table, "the table")?,
+        summary: taken(summary, "the summary")?,
         ..*call
     };
     Ok((answer, after))

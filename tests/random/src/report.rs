@@ -189,6 +189,8 @@ pub fn describe_difference(
             Field::BytesOut => pair(&expected.1.bytes_out, &after.bytes_out),
             Field::LevelsOut => pair(&expected.1.levels_out, &after.levels_out),
             Field::WordsOut => pair(&expected.1.words_out, &after.words_out),
+            Field::Table => pair(&expected.1.table, &after.table),
+            Field::Summary => pair(&expected.1.summary, &after.summary),
         };
         if let Some((expected, observed)) = pair {
             let _ = writeln!(text, "    {field:?} expected {expected}");

@@ -4,7 +4,7 @@
 //! Nothing here is fast or clever: a row is worked point by point as document 01 states it, and conditions are computed
 //! with numbers wide enough for any argument.
 
-use crate::call::{number_of, Call, Field, Name, SIZE_OF_MAP};
+use crate::call::{number_of, Call, Double, Field, Name, SIZE_OF_MAP};
 use crate::definitions::{self, Point, Set};
 use crate::kinds::{Kind, NOTHING_FOUND};
 
@@ -62,11 +62,18 @@ fn applies(call: &Call, reason: u32) -> bool {
         10 => [Field::Levels, Field::Map, Field::WorkA, Field::WorkB]
             .iter()
             .any(|field| call.name.fields().contains(field) && wrong_length(call, *field)),
-        11 => [Field::BytesOut, Field::LevelsOut, Field::WordsOut]
-            .iter()
-            .any(|field| call.name.fields().contains(field) && wrong_length(call, *field)),
+        11 => [
+            Field::BytesOut,
+            Field::LevelsOut,
+            Field::WordsOut,
+            Field::Table,
+            Field::Summary,
+        ]
+        .iter()
+        .any(|field| call.name.fields().contains(field) && wrong_length(call, *field)),
         12 => call.number > 8192,
         13 => !record_of(call).is_finished(),
+        14 => sheet_set(call.width, call.height, &call.sheet).is_empty(),
         21 => !call.file.starts_with(b"P4"),
         22 => Header::read(&call.file).is_none(),
         23 => raster_of(call).0.len() < raster_of(call).1,
@@ -139,6 +146,8 @@ pub fn due_length(call: &Call, field: Field) -> u128 {
         (Name::WritePgm, Field::BytesOut) => pgm_file(&record_of(call), &call.levels).len() as u128,
         (_, Field::BytesOut) => frame_bytes(call.width, call.height),
         (_, Field::File) => call.file.len() as u128,
+        (_, Field::Table) => u128::from(call.width.max(call.height)) + 1,
+        (_, Field::Summary) => 2,
     }
 }
 
@@ -378,7 +387,7 @@ pub fn pack(width: u64, flags: &[bool]) -> Vec<u8> {
 }
 
 /// What a frame shows of a set, packed.
-fn pack_set(width: u64, height: u64, set: &Set) -> Vec<u8> {
+pub fn pack_set(width: u64, height: u64, set: &Set) -> Vec<u8> {
     let points = frame_points(width, height).into_iter();
     let flags: Vec<bool> = points.map(|point| set.holds(point)).collect();
     pack(width, &flags)
@@ -436,6 +445,7 @@ fn accept(call: &mut Call) {
                 definitions::closing_levels(&sheet(), &element(), call.number, &points());
             clear_work(call);
         }
+        Name::Spectrum => spectrum(call),
         Name::DilateByMap => {
             let set = sheet();
             let points: Vec<(Point, u64)> =
@@ -473,6 +483,32 @@ fn thresholded(call: &Call) -> Vec<u8> {
         .map(|level| record.kind.holds(record.cap, call.number, level))
         .collect();
     pack(record.width, &flags)
+}
+
+/// How many of the levels are n, for each n from 0 to the last.
+pub fn counts(levels: &[u16], last: u64) -> Vec<u64> {
+    let of_level = |n: u64| levels.iter().filter(move |level| u64::from(**level) == n);
+    (0..=last).map(|n| of_level(n).count() as u64).collect()
+}
+
+/// The table counts all points of the frame by their levels, the summary speaks of the sheet's own points.
+fn spectrum(call: &mut Call) {
+    let points = frame_points(call.width, call.height);
+    let set = sheet_set(call.width, call.height, &call.sheet);
+    let levels = definitions::opening_levels(&set, &element_set(call.side, &call.cells), &points);
+    call.table = counts(&levels, call.width.max(call.height));
+    let foreground: Vec<u64> = points
+        .iter()
+        .zip(&levels)
+        .filter(|(point, _)| set.holds(**point))
+        .map(|(_, level)| u64::from(*level))
+        .collect();
+    let sum: u64 = foreground.iter().sum();
+    let at_one = foreground.iter().filter(|level| **level == 1).count();
+    // One division each, of whole numbers that a double holds exactly.
+    let part = |number: u64| Double::of(number as f64 / foreground.len() as f64);
+    call.summary = vec![part(sum), part(at_one as u64)];
+    clear_work(call);
 }
 
 fn clear_work(call: &mut Call) {

@@ -214,6 +214,7 @@ fn fit_lengths(before: &Call, after: &mut Call) {
         Field::WorkB,
         Field::BytesOut,
         Field::LevelsOut,
+        Field::Table,
     ] {
         if !before.name.fields().contains(&field) {
             continue;

@@ -1,14 +1,17 @@
 //! Makes random calls that are accepted.
 
-use crate::call::{Call, Field, Name};
+use crate::call::{Call, Double, Field, Name};
+use crate::definitions::{dilated_by_sizes, Point};
 use crate::dice::Dice;
 use crate::kinds::Kind;
-use crate::rules::{due_length, frame_points, pack, record_words, sound_sheet_set, Record};
+use crate::rules::{
+    due_length, element_set, frame_points, pack, pack_set, record_words, sound_sheet_set, Record,
+};
 
 /// How large the sheets may be.
 #[derive(Clone, Copy, PartialEq, Eq)]
 pub enum Scale {
-    /// Frames of 1 to 12.
+    /// Frames of 1 to 12, and of up to 21 for shapes.
     Small,
     /// Frames of up to 40, and wide ones of up to 300 by 3.
     Large,
@@ -23,6 +26,12 @@ pub fn sound_call(dice: &mut Dice, name: Name, scale: Scale) -> Call {
     }
     if name.takes_element() {
         (call.side, call.cells) = element(dice);
+    }
+    if name == Name::Spectrum {
+        if dice.percent(70) {
+            shapes(dice, &mut call, scale);
+        }
+        some_foreground(dice, &mut call);
     }
     if name.takes_record() {
         record(dice, &mut call, scale);
@@ -108,12 +117,62 @@ pub fn sheet(dice: &mut Dice, width: u64, height: u64) -> Vec<u8> {
         }
     };
     let mut bytes = pack(width, &flags);
-    let row_bytes = usize::try_from(width.div_ceil(8)).expect("frames are small");
-    let padding = u8::try_from((1_u32 << ((8 - width % 8) % 8)) - 1).expect("below 128");
-    for row in bytes.chunks_mut(row_bytes) {
-        row[row_bytes - 1] |= dice.byte() & padding;
-    }
+    set_padding(dice, width, &mut bytes);
     bytes
+}
+
+/// The padding bits of a row's last byte.
+pub fn padding(width: u64) -> u8 {
+    u8::try_from((1_u32 << ((8 - width % 8) % 8)) - 1).expect("below 128")
+}
+
+/// The last byte of each row of a packed sheet.
+pub fn row_ends(width: u64, sheet: &mut [u8]) -> impl Iterator<Item = &mut u8> + '_ {
+    let row_bytes = usize::try_from(width.div_ceil(8)).expect("frames are small");
+    sheet.iter_mut().skip(row_bytes - 1).step_by(row_bytes)
+}
+
+/// Sets any of a sheet's padding bits.
+pub fn set_padding(dice: &mut Dice, width: u64, sheet: &mut [u8]) {
+    row_ends(width, sheet).for_each(|byte| *byte |= dice.byte() & padding(width));
+}
+
+/// A sheet of shapes that the element makes, added to itself some times and moved, in a frame that holds them whole: few
+/// other sheets have points of several opening levels.
+fn shapes(dice: &mut Dice, call: &mut Call, scale: Scale) {
+    let most = if scale == Scale::Large {
+        40
+    } else {
+        3 * call.side
+    };
+    call.width = dice.between(call.side, most);
+    call.height = dice.between(call.side, most);
+    let (width, height, side) = (call.width, call.height, call.side);
+    let most_times = (width.min(height) - 1) / (side - 1);
+    let shapes: Vec<(Point, u64)> = (0..dice.between(1, 5))
+        .map(|_| {
+            let times = dice.between(0, most_times);
+            let margin = times * (side - 1) / 2;
+            let mut between_margins = |frame_side: u64| {
+                let place = dice.between(margin, frame_side - 1 - margin);
+                i64::try_from(place).expect("frames are small")
+            };
+            let (column, row) = (between_margins(width), between_margins(height));
+            (Point { column, row }, times)
+        })
+        .collect();
+    let union = dilated_by_sizes(&shapes, &element_set(side, &call.cells));
+    call.sheet = pack_set(width, height, &union);
+    set_padding(dice, width, &mut call.sheet);
+}
+
+/// Sets a point where the sheet has none, as a spectrum asks for one.
+fn some_foreground(dice: &mut Dice, call: &mut Call) {
+    if sound_sheet_set(call).is_some_and(|set| set.is_empty()) {
+        let (column, row) = (dice.below(call.width), dice.below(call.height));
+        let byte = row * call.width.div_ceil(8) + column / 8;
+        call.sheet[usize::try_from(byte).expect("frames are small")] |= 0x80 >> (column % 8);
+    }
 }
 
 fn rectangles(dice: &mut Dice, width: u64, height: u64) -> Vec<bool> {
@@ -369,7 +428,24 @@ pub fn scramble(dice: &mut Dice, call: &mut Call) {
     call.bytes_out
         .iter_mut()
         .for_each(|byte| *byte = dice.byte());
-    call.words_out
+    for words in [&mut call.words_out, &mut call.table] {
+        words.iter_mut().for_each(|word| *word = dice.word());
+    }
+    call.summary
         .iter_mut()
-        .for_each(|word| *word = dice.word());
+        .for_each(|double| *double = any_double(dice));
+}
+
+/// Any double: often one that is no number, or else one that no computation would give back.
+fn any_double(dice: &mut Dice) -> Double {
+    const SIGN: u64 = 1 << 63;
+    const EXPONENT: u64 = 0x7FF << 52;
+    let word = dice.word();
+    Double(match dice.below(5) {
+        // All bits of the exponent make it no number, quiet or signalling; none make it subnormal.
+        0 | 1 => word | EXPONENT,
+        2 => word & !EXPONENT,
+        3 => dice.pick(&[0, SIGN, EXPONENT, EXPONENT | SIGN]),
+        _ => word,
+    })
 }
