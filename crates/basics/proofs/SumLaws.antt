@@ -102,14 +102,3 @@ module _ (width height : ℕ) where
     where
       inRow : (ℕ → ℕ → Bool) → ℕ → ℕ
       inRow p row = sum width (λ col. cond (p row col) 1 0)
-
-  -- one that has it
-  pub points-some : (f : ℕ → ℕ → Bool) (row col : ℕ) → row < height → col < width → f row col ≡ true
-      → 0 < pointsWhere width height f
-  unfolding pointsWhere
-  points-some f row col a b e =
-      let inRow : ℕ → ℕ = λ row. sum width (λ col. cond (f row col) 1 0) in
-      let s = sum-term height row inRow a in
-      let t = sum-term width col (λ col. cond (f row col) 1 0) b in
-      let one : _≡_ {A = ℕ} (cond (f row col) 1 0) 1 = rw e in
-      omega arith

@@ -107,7 +107,7 @@ most-small {first = first} given h =
     (sym (given .run .levels-are)) (opening-small (given .input) (given .sheet) (given .bytes) first 0 false (given .run .started)))
 
 -- the table, entry by entry
-pub record Tables (r : Record) (first : List ℕ) (entries n points : ℕ) (second counts : List ℕ) : Type 0 where
+pub record TableSteps (r : Record) (first : List ℕ) (entries n points : ℕ) (second counts : List ℕ) : Type 0 where
   pub given : Ready r first second
   pub size : length counts ≡ entries
   pub below : n ≤ entries
@@ -115,7 +115,7 @@ pub record Tables (r : Record) (first : List ℕ) (entries n points : ℕ) (seco
   pub front : (known : HasLevels r first) → Filling entries (pointsOf (r .width) (r .height) (known .level)) n counts
 
 pub tables-start : {r : Record} {first second counts : List ℕ} {points : ℕ} → Ready r first second
-    → points ≡ r .height * r .width → Tables r first (length counts) 0 points second counts
+    → points ≡ r .height * r .width → TableSteps r first (length counts) 0 points second counts
 tables-start {r} {counts = counts} g e = record {
   given = g;
   size = refl;
@@ -125,14 +125,14 @@ tables-start {r} {counts = counts} g e = record {
 }
 
 module _ {r : Record} {first : List ℕ} {entries n points : ℕ} {second counts : List ℕ}
-    (P : Tables r first entries n points second counts) {above : ℕ} (counted : CountsAbove r first n above) where
+    (P : TableSteps r first entries n points second counts) {above : ℕ} (counted : CountsAbove r first n above) where
   pub fewer : HasLevels r first → above ≤ points
   fewer known =
       let w = r .width in let h = r .height in
       let p = P .left known in let s = from-split w h (known .level) n in let q = counted known in omega arith
 
   pub tables-turn : HasLevels r first → n < entries → {next : List ℕ} → length next ≡ length second
-      → Tables r first entries (n + 1) above next (set counts n (points - above))
+      → TableSteps r first entries (n + 1) above next (set counts n (points - above))
   tables-turn known l {next} s = record {
     given = record { taken = P .given .taken; first-size = P .given .first-size; second-size = s ∙ P .given .second-size };
     size = length-set counts n (points - above) ∙ P .size;
@@ -144,6 +144,6 @@ module _ {r : Record} {first : List ℕ} {entries n points : ℕ} {second counts
   }
 
 pub tables-end : {r : Record} {first : List ℕ} {entries n points : ℕ} {second counts : List ℕ}
-    → Tables r first entries n points second counts → entries ≤ n → FillsTable r first entries counts
+    → TableSteps r first entries n points second counts → entries ≤ n → FillsTable r first entries counts
 tables-end {r} {n = n} {counts = counts} P l known =
     filling-end _ (pointsOf (r .width) (r .height) (known .level)) n counts (P .front known) l

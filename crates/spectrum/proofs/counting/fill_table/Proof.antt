@@ -1,5 +1,5 @@
 -- The loop's invariant: the first n entries are filled, and the points of level n or more are left.
-use Rattle.spectrum.proofs.Finding.{Tables, tables-start, fewer, tables-turn, tables-end, most-small}
+use Rattle.spectrum.proofs.Finding.{TableSteps, tables-start, fewer, tables-turn, tables-end, most-small}
 use Rattle.run.proofs.RecordLaws.{sound, area-small}
 use borrow.Author.Needs.{needs}
 use native.Mathlib.Omega.{arith}
@@ -10,7 +10,7 @@ use Rattle.spectrum.proofs.counting.fill_table.Statement.{statement}
 use Rattle.spectrum.proofs.counting.fill_table.Tie as tie
 
 abbrev Inv-loop : tie.InvT-loop
-Inv-loop run first second₀ table₀ most points₀ n₀ second table points n = Tables run first (length table₀) n points second table
+Inv-loop run first second₀ table₀ most points₀ n₀ second table points n = TableSteps run first (length table₀) n points second table
 
 abbrev μ-loop : tie.MeasureT-loop
 μ-loop run first second₀ table₀ most points₀ n₀ second table points n = length table₀ - n
