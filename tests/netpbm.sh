@@ -14,11 +14,10 @@ library=${WALUGTIRIM_LIB_DIR:-$root/target/staticlib}
 [ -d "$library" ] && library=$(cd "$library" && pwd)
 work=$root/target/netpbm
 . "$root/tests/counted.sh"
-. "$root/tests/processor.sh"
 
 # The library's side, tests/netpbm.c.
 driver() {
-    emulated ./driver "$@"
+    "$root/x86-64" ./driver "$@"
 }
 
 # The pixels of a PBM as Netpbm reads them: all digits on one line.
@@ -66,7 +65,7 @@ fi
 
 mkdir -p "$work"
 rm -f "$work"/*
-if ! "${CC:-cc}" -O2 -std=c99 -Wall -Wextra -I "$root/include" "$root/tests/netpbm.c" "$library/libharness.a" \
+if ! "$root/x86-64" "${CC:-cc}" -O2 -std=c99 -Wall -Wextra -I "$root/include" "$root/tests/netpbm.c" "$library/libharness.a" \
     -o "$work/driver"; then
     check "the driver is built" false
     finish netpbm
