@@ -1,4 +1,4 @@
--- Document 01's limits, as contracts cite them; src/lib.rt has the same for code.
+-- The limits of docs/RULES.md, as contracts cite them; src/lib.rt has the same for code.
 use Prim.Native.Nat.{ℕ}
 
 -- a side of a frame or of a canvas

@@ -5,8 +5,8 @@ use mathlib.Core.Logic.{_≢_}
 use mathlib.Core.Bool.{Bool, cond}
 use mathlib.Core.List.{List, [], _∷_}
 
--- a call lists its refusals in document 01's order, each a number and whether it applies; it gives the first that applies, and 0
--- where none does
+-- a call lists its refusals in the order of docs/RULES.md, each a number and whether it applies; it gives the first that applies,
+-- and 0 where none does
 abbrev pub Refusal : Type 0
 Refusal = ℕ × Bool
 

@@ -1,4 +1,4 @@
-// Document 01's cases 9 and 10, and a case for each refusal of each public call. The list of cases is read on standard input
+// Cases 9 and 10 of docs/RULES.md, and a case for each refusal of each public call. The list of cases is read on standard input
 // (the file `stdin`), so a new case is a line there and nothing to prove here; for each the program prints the call, the case and
 // the number answered, 0 where it is accepted. Then case 10, how many points slices of rows lower, cropped sheets, two points
 // dilated by a map, and the spectrum of case 6.

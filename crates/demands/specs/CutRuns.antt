@@ -45,7 +45,7 @@ abbrev pub EveryCut : Type 0
 EveryCut = (r : Record) (levels : List ℕ) (started : Started r levels) (series : List Slice) → IsSeries (atStart r levels) series
     → CutRun started series
 
--- With all rows done a look is the ordinary threshold, whatever is lent: what it answers that may answer, and nothing else.
+-- With all rows done a look is the ordinary threshold: whatever is lent, it answers the threshold's number and sheet.
 abbrev pub FinalIsOrdinary : Type 0
 FinalIsOrdinary =
     (r : Record) → isDone r ≡ true → (levels : List ℕ) (size : ℕ) (out : List ℕ) (number : ℕ) (is-final : Bool) (sheet : List ℕ) →

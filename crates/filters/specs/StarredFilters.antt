@@ -1,5 +1,5 @@
--- Document 01's starred cases once more, through the contracts of opening and closing: with buffers that fit, the one outcome
--- that a contract allows is 0 with the table's answer.
+-- The starred cases of docs/RULES.md once more, through the contracts of opening and closing: with buffers that fit, the one
+-- outcome that a contract allows is 0 with the table's answer.
 use Prim.Native.Nat.{ℕ}
 use mathlib.Core.Path.{_≡_}
 use mathlib.Core.List.{List, [], _∷_}

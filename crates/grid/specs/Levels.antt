@@ -1,4 +1,4 @@
--- The level of a point, after Chen and Haralick's definitions 12, 13, 14 and 18, with document 01's cap.
+-- The level of a point, after Chen and Haralick's definitions 12, 13, 14 and 18, with a cap: docs/RULES.md.
 -- F n says that the point is held at size n.
 use mathlib.Core.Path.{_≡_}
 use mathlib.Core.Logic.{_⊎_}

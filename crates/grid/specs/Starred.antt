@@ -1,5 +1,5 @@
--- Document 01's small sheets worked by hand, those marked *, and two cropped ones: one starredCases, proved in proofs/Starred.antt
--- to hold of the definitions.
+-- The small sheets of docs/RULES.md, worked by hand, those marked *, and two cropped ones: one starredCases, proved in
+-- proofs/Starred.antt to hold of the definitions.
 -- Sheets, elements and answers are drawn row by row; an element's origin is at the centre of its square.
 use mathlib.Core.Path.{_≡_}
 use mathlib.Core.Logic.{_⊎_}
@@ -114,7 +114,7 @@ abbrev pub case : ℕ → ℕ → Drawing → Drawing → Question → Drawing �
 case width height sheet shape question expected =
     record { width = width; height = height; sheet = sheet; shape = shape; question = question; expected = expected }
 
--- case 2, of which document 01 also says what stands after one row
+-- case 2, of which docs/RULES.md also says what stands after one row
 abbrev pub fullRow : Case
 fullRow = case 5 1 (oneRow (1 ∷ 1 ∷ 1 ∷ 1 ∷ 1 ∷ [])) pair erosionLevels (oneRow (5 ∷ 4 ∷ 3 ∷ 2 ∷ 1 ∷ []))
 

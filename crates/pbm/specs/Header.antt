@@ -1,4 +1,4 @@
--- The header of a raw PBM file, as Netpbm's page has it, narrowed by document 01: "P4", one or more white bytes, the width, one
+-- The header of a raw PBM file, as Netpbm's page has it, narrowed by docs/RULES.md: "P4", one or more white bytes, the width, one
 -- or more white bytes, the height, exactly one white byte; what follows is the raster. No remarks: "#" breaks a header as any
 -- other byte does.
 use Prim.Native.Nat.{ℕ}

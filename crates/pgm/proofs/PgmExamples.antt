@@ -1,4 +1,4 @@
--- Worked examples: the full 3 by 3 sheet of document 01, and the end of a line of 70 characters.
+-- Worked examples: the full 3 by 3 sheet of docs/RULES.md, and the end of a line of 70 characters.
 use mathlib.Core.Path.{_≡_, refl}
 use mathlib.Core.List.{[], _∷_, _++_}
 use Rattle.decimal.specs.Numbers.{digits, digitsIn}

@@ -1,5 +1,5 @@
--- Document 01's example: for the full 3 by 3 sheet the program prints exactly these bytes, by computing. And two inputs that it
--- refuses.
+-- The example of docs/RULES.md: for the full 3 by 3 sheet the program prints exactly these bytes, by computing. And two inputs
+-- that it refuses.
 use mathlib.Core.Path.{_≡_, refl}
 use mathlib.Core.List.{[], _∷_, _++_}
 use Rattle.basics.specs.Tables.{table, raster}

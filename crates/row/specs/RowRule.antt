@@ -1,4 +1,4 @@
--- How a row is worked: document 01's "How a run proceeds, row by row", for any levels.
+-- How a row is worked: docs/RULES.md, "Runs", for any levels.
 -- Levels stand row by row in one list. Cells of the element are numbered 0 to 48 in reading order; cell 24 is its centre.
 use Prim.Native.Nat.{ℕ, zero, suc, _+_, _-_, _*_, _/_, _%_, min}
 use mathlib.Core.Bool.{Bool, true, false, cond, _&&_}

@@ -1,4 +1,4 @@
--- Document 01's starred cases once more, through the definitions of runs: what a run of each erosion and dilation case gives.
+-- The starred cases of docs/RULES.md once more, through the definitions of runs: what a run of each such case gives.
 use Prim.Native.Nat.{ℕ}
 use mathlib.Core.Path.{_≡_}
 use mathlib.Core.List.{List, [], _∷_}

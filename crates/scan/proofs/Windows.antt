@@ -155,7 +155,7 @@ module _ (width height beyond : ℕ) (cells : List (List ℕ)) (upward : Bool) (
           later (inl z) = absurd (n z)
           later (inr l) = l
 
--- where the parts of document 01 begin, every partner met is in them
+-- where the parts of docs/RULES.md begin, every partner met is in them
 pub up-within : (row : ℕ) (cells : List (List ℕ)) → Within true row row cells
 unfolding firstMet
 up-within row cells = record { met = λ k a b c. inr (omega arith) }

@@ -1,4 +1,4 @@
-// A scan of rows over lent levels: each row is worked in the part of the levels that begins where document 01 says, and how many
+// A scan of rows over lent levels: each row is worked in the part of the levels that begins where docs/RULES.md says, and how many
 // points it lowers is answered.
 ghost use mathlib.Core.Path.{_≡_};
 ghost use Prim.Native.Nat.{_+_, _<_, _≤_, min};

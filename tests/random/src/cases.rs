@@ -1,4 +1,4 @@
-//! The small sheets that document 01 works by hand, and the largest sheets accepted, with answers written out here.
+//! The small sheets that `docs/RULES.md` works by hand, and the largest sheets accepted, with answers written out here.
 
 use crate::call::{Call, Double, Field, Name};
 use crate::raw::perform;

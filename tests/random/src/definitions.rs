@@ -1,6 +1,6 @@
 //! The operations as sets of points on the infinite grid.
 //!
-//! This module is written from the definitions of document 01 and shares nothing with the scan: no rows, no partners,
+//! This module is written from the definitions of `docs/RULES.md` and shares nothing with the scan: no rows, no partners,
 //! no levels that grow from their neighbours, no canvas, and no frame until a level is asked for or foreground lies
 //! beyond it. It adds sets, asks whether a moved set lies within another, and counts sizes up from 0. It is slow on
 //! purpose.

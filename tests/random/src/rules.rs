@@ -1,7 +1,7 @@
 //! What every call has to answer, for all inputs: the refusals from their tables, the runs by the row rule, the files
 //! by their layout, and the rest by `definitions`.
 //!
-//! Nothing here is fast or clever: a row is worked point by point as document 01 states it, and conditions are computed
+//! Nothing here is fast or clever: a row is worked point by point as `docs/RULES.md` states it, and conditions are computed
 //! with numbers wide enough for any argument.
 
 use crate::call::{number_of, Call, Double, Field, Name, SIZE_OF_MAP};

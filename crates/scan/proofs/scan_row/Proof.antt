@@ -1,4 +1,4 @@
--- Where document 01's parts begin, every partner met is in the part.
+-- Where the parts of docs/RULES.md begin, every partner met is in the part.
 use Rattle.scan.specs.Scan.{area}
 use Rattle.scan.proofs.Windows.{up-within, down-within}
 use Rattle.scan.proofs.ScanLaws.{row-down, row-up}
