@@ -2,7 +2,7 @@
  * walugtirim: erosion, dilation, opening and closing of bilevel sheets.
  *
  * This is the C boundary of the verified library. Link it with the static archive libharness.a; the archive needs
- * no library but C's own (memset).
+ * no library but C's own (memcpy and memset).
  *
  * Words
  *
@@ -167,6 +167,10 @@ uint32_t wt_start_cropped(uint64_t width, uint64_t height,
 
 /*
  * Continues a run by so many rows, or by the rows still due where these are fewer.
+ *
+ * The record has to be the one last given, and the levels the run's own, which nothing else has written: no call can see that. A
+ * later record beside earlier levels passes unseen, as do an earlier record and later levels, and what is then taken for the
+ * run's picture is none. The same holds of wt_collect, wt_threshold and wt_provisional.
  *
  *   record      56 words, the record last given; its rows done grow by the rows worked, all else stays
  *   levels      the run's levels, as many as its frame (erosion) or canvas (dilation, cropped) has points; worked row by
@@ -354,10 +358,9 @@ uint32_t wt_spectrum(uint64_t width, uint64_t height,
                      double *summary, size_t summary_len);
 
 /*
- * Dilates each foreground point by a size of its own, which a map gives, at little more than the cost of one dilation,
- * whatever the sizes. The sheet is the union, over the foreground points a, of the element added to itself S(a) times and
- * moved to a, taken on the infinite grid and seen in the frame. Where the map gives one size n everywhere, it is what
- * wt_threshold gives at n of a dilation with the same cap.
+ * Dilates each foreground point by a size of its own, which a map gives. The sheet is the union, over the foreground points
+ * a, of the element added to itself S(a) times and moved to a, taken on the infinite grid and seen in the frame. Where the
+ * map gives one size n everywhere, it is what wt_threshold gives at n of a dilation with the same cap.
  *
  *   width, height   the frame
  *   sheet           the sheet

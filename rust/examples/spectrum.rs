@@ -55,9 +55,9 @@ fn bars_of(table: &[u64]) -> Vec<String> {
             lines.push("  ...".to_string());
         }
         next = level + 1;
-        // Rounded up, so that a single point is seen beside millions.
+        // Rounded up, so that a single point is seen beside millions; no number is above BAR_COLUMNS.
         let columns = (points * BAR_COLUMNS).div_ceil(largest);
-        let bar: String = (0..columns).map(|_| '#').collect();
+        let bar = "#".repeat(columns as usize);
         lines.push(format!("{level:>5}  {points:>8}  {bar}"));
     }
     lines

@@ -3,6 +3,10 @@
 //! What each slice has to hold is said in `include/walugtirim.h`. Of the refusals listed with a function, in their
 //! order, the first that applies is given.
 //!
+//! A run is its record and its levels together: the record has to be the one last returned, and the levels the run's
+//! own, which nothing else has written. The library can't see it otherwise: a later record beside earlier levels passes
+//! unseen, and its picture is then wrong; an earlier record beside later levels passes unseen too.
+//!
 //! This is the only module with `unsafe`. Every slice goes over as its pointer and its count, so the two always belong
 //! together, and Rust's own rules keep a slice that is written from overlapping another. The library accepts any
 //! number and any slice, so nothing else has to hold.
@@ -26,62 +30,42 @@ pub struct Given<'a> {
     pub cells: &'a [u8],
 }
 
+/// Calls a C function and answers its refusal, if any: `&slice` and `&mut slice` go over as pointer and count, `..given`
+/// as all that a [`Given`] holds, any other argument as it is. All are taken before the `unsafe` and stay borrowed until
+/// the call, so that a slice which is written and lent twice doesn't compile.
+macro_rules! call {
+    ($function:ident($($arguments:tt)*)) => {
+        call!(@ $function [] $($arguments)*)
+    };
+    (@ $function:ident [$($taken:tt)*]) => {
+        Refusal::check(unsafe { c::$function($($taken)*) })
+    };
+    (@ $function:ident [$($taken:tt)*] ..$given:expr $(, $($rest:tt)*)?) => {{
+        let given: Given = $given;
+        call!(@ $function [$($taken)*]
+            given.width, given.height, &given.sheet, given.side, &given.cells $(, $($rest)*)?)
+    }};
+    (@ $function:ident [$($taken:tt)*] &mut $slice:expr $(, $($rest:tt)*)?) => {{
+        let slice = &mut $slice[..];
+        call!(@ $function [$($taken)* slice.as_mut_ptr(), slice.len(),] $($($rest)*)?)
+    }};
+    (@ $function:ident [$($taken:tt)*] &$slice:expr $(, $($rest:tt)*)?) => {{
+        let slice = &$slice[..];
+        call!(@ $function [$($taken)* slice.as_ptr(), slice.len(),] $($($rest)*)?)
+    }};
+    (@ $function:ident [$($taken:tt)*] $value:expr $(, $($rest:tt)*)?) => {{
+        let value = $value;
+        call!(@ $function [$($taken)* value,] $($($rest)*)?)
+    }};
+}
+
 /// Starts an erosion and answers its record. The levels are as many as the frame has points.
 ///
 /// # Errors
 /// 2 to 7, 10, the first that applies.
 pub fn start_erosion(given: Given, levels: &mut [u16]) -> Result<Record, Refusal> {
     let mut record = [0; RECORD_WORDS];
-    let number = unsafe {
-        c::wt_start_erosion(
-            given.width,
-            given.height,
-            given.sheet.as_ptr(),
-            given.sheet.len(),
-            given.side,
-            given.cells.as_ptr(),
-            given.cells.len(),
-            levels.as_mut_ptr(),
-            levels.len(),
-            record.as_mut_ptr(),
-            record.len(),
-        )
-    };
-    Refusal::check(number)?;
-    Ok(record)
-}
-
-/// The C type of `wt_start_dilation` and `wt_start_cropped`.
-#[rustfmt::skip]
-type CanvasStart = unsafe extern "C" fn(
-    u64, u64, *const u8, usize, u64, *const u8, usize, u64, *mut u16, usize, *mut u64, usize,
-) -> u32;
-
-/// Calls one of these two with a cap.
-fn start_on_canvas(
-    call: CanvasStart,
-    given: Given,
-    cap: u64,
-    levels: &mut [u16],
-) -> Result<Record, Refusal> {
-    let mut record = [0; RECORD_WORDS];
-    let number = unsafe {
-        call(
-            given.width,
-            given.height,
-            given.sheet.as_ptr(),
-            given.sheet.len(),
-            given.side,
-            given.cells.as_ptr(),
-            given.cells.len(),
-            cap,
-            levels.as_mut_ptr(),
-            levels.len(),
-            record.as_mut_ptr(),
-            record.len(),
-        )
-    };
-    Refusal::check(number)?;
+    call!(wt_start_erosion(..given, &mut levels, &mut record))?;
     Ok(record)
 }
 
@@ -90,7 +74,9 @@ fn start_on_canvas(
 /// # Errors
 /// 2 to 10, the first that applies.
 pub fn start_dilation(given: Given, cap: u64, levels: &mut [u16]) -> Result<Record, Refusal> {
-    start_on_canvas(c::wt_start_dilation, given, cap, levels)
+    let mut record = [0; RECORD_WORDS];
+    call!(wt_start_dilation(..given, cap, &mut levels, &mut record))?;
+    Ok(record)
 }
 
 /// Starts the erosion of a cropped sheet, with foreground beyond its frame, up to a cap, and answers its record. The
@@ -99,7 +85,9 @@ pub fn start_dilation(given: Given, cap: u64, levels: &mut [u16]) -> Result<Reco
 /// # Errors
 /// 2 to 10, the first that applies.
 pub fn start_cropped(given: Given, cap: u64, levels: &mut [u16]) -> Result<Record, Refusal> {
-    start_on_canvas(c::wt_start_cropped, given, cap, levels)
+    let mut record = [0; RECORD_WORDS];
+    call!(wt_start_cropped(..given, cap, &mut levels, &mut record))?;
+    Ok(record)
 }
 
 /// What a slice of rows answers.
@@ -122,18 +110,12 @@ pub fn continue_run(
     allowance: u64,
 ) -> Result<Continued, Refusal> {
     let mut answer = [0; 2];
-    let number = unsafe {
-        c::wt_continue(
-            record.as_mut_ptr(),
-            record.len(),
-            levels.as_mut_ptr(),
-            levels.len(),
-            allowance,
-            answer.as_mut_ptr(),
-            answer.len(),
-        )
-    };
-    Refusal::check(number)?;
+    call!(wt_continue(
+        &mut record,
+        &mut levels,
+        allowance,
+        &mut answer
+    ))?;
     Ok(Continued {
         done: answer[0] == 1,
         lowered: answer[1],
@@ -146,16 +128,7 @@ pub fn continue_run(
 /// # Errors
 /// 1, 10, 11, 13, the first that applies.
 pub fn collect(record: &Record, levels: &[u16], out: &mut [u16]) -> Result<(), Refusal> {
-    Refusal::check(unsafe {
-        c::wt_collect(
-            record.as_ptr(),
-            record.len(),
-            levels.as_ptr(),
-            levels.len(),
-            out.as_mut_ptr(),
-            out.len(),
-        )
-    })
+    call!(wt_collect(&record, &levels, &mut out))
 }
 
 /// Gives the eroded or dilated sheet of one size, once all rows are done.
@@ -168,17 +141,7 @@ pub fn threshold(
     size: u64,
     out: &mut [u8],
 ) -> Result<(), Refusal> {
-    Refusal::check(unsafe {
-        c::wt_threshold(
-            record.as_ptr(),
-            record.len(),
-            levels.as_ptr(),
-            levels.len(),
-            size,
-            out.as_mut_ptr(),
-            out.len(),
-        )
-    })
+    call!(wt_threshold(&record, &levels, size, &mut out))
 }
 
 /// Whether the sheet of a look is provisional or final.
@@ -202,59 +165,11 @@ pub fn provisional(
     out: &mut [u8],
 ) -> Result<State, Refusal> {
     let mut state = [0];
-    let number = unsafe {
-        c::wt_provisional(
-            record.as_ptr(),
-            record.len(),
-            levels.as_ptr(),
-            levels.len(),
-            size,
-            out.as_mut_ptr(),
-            out.len(),
-            state.as_mut_ptr(),
-            state.len(),
-        )
-    };
-    Refusal::check(number)?;
+    call!(wt_provisional(&record, &levels, size, &mut out, &mut state))?;
     Ok(if state[0] == 1 {
         State::Final
     } else {
         State::Provisional
-    })
-}
-
-/// The C type of `wt_open` and `wt_close`, and of `wt_closing_levels`, where the answer has levels and not bytes.
-#[rustfmt::skip]
-type Filter<T> = unsafe extern "C" fn(
-    u64, u64, *const u8, usize, u64, *const u8, usize, u64, *mut u16, usize, *mut u16, usize, *mut T, usize,
-) -> u32;
-
-/// Calls one of these three with a size or cap.
-fn filter<T>(
-    call: Filter<T>,
-    given: Given,
-    number: u64,
-    work_a: &mut [u16],
-    work_b: &mut [u16],
-    out: &mut [T],
-) -> Result<(), Refusal> {
-    Refusal::check(unsafe {
-        call(
-            given.width,
-            given.height,
-            given.sheet.as_ptr(),
-            given.sheet.len(),
-            given.side,
-            given.cells.as_ptr(),
-            given.cells.len(),
-            number,
-            work_a.as_mut_ptr(),
-            work_a.len(),
-            work_b.as_mut_ptr(),
-            work_b.len(),
-            out.as_mut_ptr(),
-            out.len(),
-        )
     })
 }
 
@@ -270,7 +185,7 @@ pub fn open(
     work_b: &mut [u16],
     out: &mut [u8],
 ) -> Result<(), Refusal> {
-    filter(c::wt_open, given, size, work_a, work_b, out)
+    call!(wt_open(..given, size, &mut work_a, &mut work_b, &mut out))
 }
 
 /// Closes a sheet by a size. Each work buffer has as many levels as the canvas whose cap is the size has points. A chain of
@@ -285,7 +200,7 @@ pub fn close(
     work_b: &mut [u16],
     out: &mut [u8],
 ) -> Result<(), Refusal> {
-    filter(c::wt_close, given, size, work_a, work_b, out)
+    call!(wt_close(..given, size, &mut work_a, &mut work_b, &mut out))
 }
 
 /// Gives the opening levels of the frame. Each work buffer has as many levels as the frame has points.
@@ -298,23 +213,12 @@ pub fn opening_levels(
     work_b: &mut [u16],
     out: &mut [u16],
 ) -> Result<(), Refusal> {
-    Refusal::check(unsafe {
-        c::wt_opening_levels(
-            given.width,
-            given.height,
-            given.sheet.as_ptr(),
-            given.sheet.len(),
-            given.side,
-            given.cells.as_ptr(),
-            given.cells.len(),
-            work_a.as_mut_ptr(),
-            work_a.len(),
-            work_b.as_mut_ptr(),
-            work_b.len(),
-            out.as_mut_ptr(),
-            out.len(),
-        )
-    })
+    call!(wt_opening_levels(
+        ..given,
+        &mut work_a,
+        &mut work_b,
+        &mut out
+    ))
 }
 
 /// Gives the closing levels of the frame, up to a cap. Each work buffer has as many levels as the canvas has points.
@@ -328,7 +232,13 @@ pub fn closing_levels(
     work_b: &mut [u16],
     out: &mut [u16],
 ) -> Result<(), Refusal> {
-    filter(c::wt_closing_levels, given, cap, work_a, work_b, out)
+    call!(wt_closing_levels(
+        ..given,
+        cap,
+        &mut work_a,
+        &mut work_b,
+        &mut out
+    ))
 }
 
 /// The two fractions of a spectrum. Each is one division of two whole numbers that a double holds exactly.
@@ -354,26 +264,13 @@ pub fn spectrum(
     table: &mut [u64],
 ) -> Result<Summary, Refusal> {
     let mut summary = [0.0; 2];
-    let number = unsafe {
-        c::wt_spectrum(
-            given.width,
-            given.height,
-            given.sheet.as_ptr(),
-            given.sheet.len(),
-            given.side,
-            given.cells.as_ptr(),
-            given.cells.len(),
-            work_a.as_mut_ptr(),
-            work_a.len(),
-            work_b.as_mut_ptr(),
-            work_b.len(),
-            table.as_mut_ptr(),
-            table.len(),
-            summary.as_mut_ptr(),
-            summary.len(),
-        )
-    };
-    Refusal::check(number)?;
+    call!(wt_spectrum(
+        ..given,
+        &mut work_a,
+        &mut work_b,
+        &mut table,
+        &mut summary
+    ))?;
     Ok(Summary {
         mean_level: summary[0],
         share_at_level_one: summary[1],
@@ -392,24 +289,7 @@ pub fn dilate_by_map(
     work: &mut [u16],
     out: &mut [u8],
 ) -> Result<(), Refusal> {
-    Refusal::check(unsafe {
-        c::wt_dilate_by_map(
-            given.width,
-            given.height,
-            given.sheet.as_ptr(),
-            given.sheet.len(),
-            given.side,
-            given.cells.as_ptr(),
-            given.cells.len(),
-            cap,
-            map.as_ptr(),
-            map.len(),
-            work.as_mut_ptr(),
-            work.len(),
-            out.as_mut_ptr(),
-            out.len(),
-        )
-    })
+    call!(wt_dilate_by_map(..given, cap, &map, &mut work, &mut out))
 }
 
 /// Gives the cells of the element turned about its origin.
@@ -417,15 +297,7 @@ pub fn dilate_by_map(
 /// # Errors
 /// 4 to 7, 11, the first that applies.
 pub fn reflect(side: u64, cells: &[u8], out: &mut [u8]) -> Result<(), Refusal> {
-    Refusal::check(unsafe {
-        c::wt_reflect(
-            side,
-            cells.as_ptr(),
-            cells.len(),
-            out.as_mut_ptr(),
-            out.len(),
-        )
-    })
+    call!(wt_reflect(side, &cells, &mut out))
 }
 
 /// Reads the raster of a raw PBM file into the first bytes of `out`. Answers the width and the height.
@@ -434,17 +306,7 @@ pub fn reflect(side: u64, cells: &[u8], out: &mut [u8]) -> Result<(), Refusal> {
 /// 21, 22, 2, 23, 24, 11, the first that applies.
 pub fn read_pbm(file: &[u8], out: &mut [u8]) -> Result<[u64; 2], Refusal> {
     let mut frame = [0; 2];
-    let number = unsafe {
-        c::wt_read_pbm(
-            file.as_ptr(),
-            file.len(),
-            out.as_mut_ptr(),
-            out.len(),
-            frame.as_mut_ptr(),
-            frame.len(),
-        )
-    };
-    Refusal::check(number)?;
+    call!(wt_read_pbm(&file, &mut out, &mut frame))?;
     Ok(frame)
 }
 
@@ -454,19 +316,7 @@ pub fn read_pbm(file: &[u8], out: &mut [u8]) -> Result<[u64; 2], Refusal> {
 /// 2, 3, 11, the first that applies.
 pub fn write_pbm(width: u64, height: u64, sheet: &[u8], out: &mut [u8]) -> Result<u64, Refusal> {
     let mut length = [0];
-    let number = unsafe {
-        c::wt_write_pbm(
-            width,
-            height,
-            sheet.as_ptr(),
-            sheet.len(),
-            out.as_mut_ptr(),
-            out.len(),
-            length.as_mut_ptr(),
-            length.len(),
-        )
-    };
-    Refusal::check(number)?;
+    call!(wt_write_pbm(width, height, &sheet, &mut out, &mut length))?;
     Ok(length[0])
 }
 
@@ -476,18 +326,6 @@ pub fn write_pbm(width: u64, height: u64, sheet: &[u8], out: &mut [u8]) -> Resul
 /// 1, 8, 10, 11, 13, the first that applies.
 pub fn write_pgm(record: &Record, levels: &[u16], out: &mut [u8]) -> Result<u64, Refusal> {
     let mut length = [0];
-    let number = unsafe {
-        c::wt_write_pgm(
-            record.as_ptr(),
-            record.len(),
-            levels.as_ptr(),
-            levels.len(),
-            out.as_mut_ptr(),
-            out.len(),
-            length.as_mut_ptr(),
-            length.len(),
-        )
-    };
-    Refusal::check(number)?;
+    call!(wt_write_pgm(&record, &levels, &mut out, &mut length))?;
     Ok(length[0])
 }

@@ -51,7 +51,7 @@ const SENTENCES: [(u32, &str); 18] = [
 ];
 
 impl Refusal {
-    /// The number, as document 01 lists it.
+    /// The number, as `docs/RULES.md` lists it.
     #[must_use]
     pub fn number(self) -> u32 {
         self.number

@@ -1,5 +1,5 @@
-//! The small sheets of document 01, worked by hand, through the safe functions; and that no argument, however wrong,
-//! does more than be refused.
+//! The small sheets of `docs/RULES.md`, worked by hand, through the safe functions; and that no argument, however
+//! wrong, does more than be refused.
 
 use walugtirim::lent::{self, Given, Summary};
 use walugtirim::{Element, Look, Refusal, Run, Sheet, Spectrum, MORE_THAN_CAP, RECORD_WORDS};
@@ -44,6 +44,54 @@ fn ring() -> Sheet {
 
 fn number<T>(result: Result<T, Refusal>) -> u32 {
     result.err().map_or(0, Refusal::number)
+}
+
+#[test]
+fn padding_makes_no_difference() {
+    let of = |bytes: [u8; 4]| Sheet::new(9, 2, bytes.to_vec());
+    let sheet = of([0xAA, 0x80, 0x55, 0x00]);
+    assert_eq!(sheet, of([0xAA, 0xFF, 0x55, 0x7F]));
+    // One pixel differs: in the last byte of the first row or of the second, or in the byte before it.
+    assert_ne!(sheet, of([0xAA, 0x00, 0x55, 0x00]));
+    assert_ne!(sheet, of([0xAA, 0x80, 0x55, 0x80]));
+    assert_ne!(sheet, of([0xAB, 0x80, 0x55, 0x00]));
+    assert_ne!(sheet, of([0xAA, 0x80, 0xD5, 0x00]));
+    // A width of whole bytes has no padding.
+    let full = Sheet::new(8, 2, vec![0xFF; 2]);
+    assert_ne!(full, Sheet::new(8, 2, vec![0xFF, 0xFE]));
+    // Nor do other frames or lengths make the same sheet.
+    let bytes = || vec![0; 2];
+    assert_ne!(Sheet::new(8, 2, bytes()), Sheet::new(7, 2, bytes()));
+    assert_ne!(Sheet::new(8, 2, bytes()), Sheet::new(8, 1, bytes()));
+    assert_ne!(Sheet::new(8, 2, bytes()), Sheet::new(8, 2, vec![0; 3]));
+}
+
+/// A sheet of three bytes, whatever its frame asks for.
+fn three_bytes(width: u64, height: u64, bytes: [u8; 3]) -> Sheet {
+    Sheet::new(width, height, bytes.to_vec())
+}
+
+#[test]
+fn unsound_sheets_can_be_compared() {
+    // The bytes end within the first row, so each bit is a pixel.
+    for side in [1 << 60, (1 << 60) + 1, u64::MAX] {
+        let sheet = three_bytes(side, side, [1, 2, 3]);
+        assert_eq!(sheet, sheet.clone());
+        assert_ne!(sheet, three_bytes(side, side, [1, 2, 2]));
+        assert_ne!(sheet, Sheet::new(side, side, vec![1, 2]));
+        assert_ne!(sheet, Sheet::new(side, side, vec![]));
+    }
+    // The last of three bytes has padding, and the third of four has none.
+    assert_eq!(three_bytes(23, 1, [1, 2, 3]), three_bytes(23, 1, [1, 2, 2]));
+    assert_ne!(three_bytes(25, 1, [1, 2, 3]), three_bytes(25, 1, [1, 2, 2]));
+    // Bytes beyond the frame have no pixel, and without a width or a height none has.
+    assert_eq!(three_bytes(9, 1, [1, 0, 3]), three_bytes(9, 1, [1, 0, 4]));
+    assert_ne!(three_bytes(9, 1, [1, 0, 3]), three_bytes(9, 1, [2, 0, 3]));
+    for (width, height) in [(0, 0), (0, u64::MAX), (u64::MAX, 0)] {
+        let sheet = three_bytes(width, height, [1, 2, 3]);
+        assert_eq!(sheet, three_bytes(width, height, [4, 5, 6]));
+        assert_ne!(sheet, Sheet::new(width, height, vec![1, 2]));
+    }
 }
 
 #[test]
@@ -214,8 +262,9 @@ fn chained_filters_fold() {
     let (sheet, ends) = (row("10111"), row("1001"));
     for (first, second) in [(0, 1), (1, 0), (1, 1), (1, 2), (2, 1), (1, 3), (3, 1)] {
         let larger = first.max(second);
-        assert_eq!(open(&open(&sheet, first), second), open(&sheet, larger));
-        assert_eq!(close(&close(&ends, first), second), close(&ends, larger));
+        let (opened, closed) = (open(&sheet, larger), close(&ends, larger));
+        assert_eq!(open(&open(&sheet, first), second).bytes, opened.bytes);
+        assert_eq!(close(&close(&ends, first), second).bytes, closed.bytes);
     }
     assert_eq!(open(&open(&sheet, 1), 2), row("00111"));
     assert_eq!(open(&open(&sheet, 3), 1), row("00000"));
@@ -400,7 +449,8 @@ fn files_go_there_and_back() {
     let file = sheet.write_pbm().unwrap();
     assert_eq!(file, b"P4\n9 2\n\xAA\x80\x55\x00");
     let back = Sheet::read_pbm(&file).unwrap();
-    assert_eq!(back, Sheet::new(9, 2, vec![0xAA, 0x80, 0x55, 0x00]));
+    assert_eq!((back.width, back.height), (9, 2));
+    assert_eq!(back.bytes, [0xAA, 0x80, 0x55, 0x00]);
     for (file, refusal) in [
         (&b"P5\n1 1\n\0"[..], 21),
         (b"P4\n1 x\n\0", 22),
