@@ -18,8 +18,8 @@ use std::time::Instant;
 
 use walugtirim::lent::{Record, Summary};
 
-use raw::{Frame, Leptonica, Way};
-use sheets::{elements, Content, Element, Sheet};
+use raw::{Leptonica, Way};
+use sheets::{elements, Content, Element, Frame, Sheet};
 
 /// The size that sheets are opened and closed by, and the cap of dilations.
 const SIZE: usize = 10;

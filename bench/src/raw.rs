@@ -3,7 +3,7 @@
 
 use std::ffi::{c_int, c_void};
 
-use crate::sheets::{Element, Sheet};
+use crate::sheets::{Element, Frame, Sheet};
 
 #[rustfmt::skip]
 extern "C" {
@@ -29,22 +29,6 @@ pub fn seconds_used() -> f64 {
 pub enum Way {
     Plain,
     Tuned,
-}
-
-/// A frame and the margin around it in the levels.
-#[derive(Clone, Copy)]
-#[repr(C)]
-pub struct Frame {
-    pub width: usize,
-    pub height: usize,
-    pub margin: usize,
-}
-
-impl Frame {
-    /// How many levels there are.
-    pub fn points(self) -> usize {
-        (self.width + 2 * self.margin) * (self.height + 2 * self.margin)
-    }
 }
 
 /// Works all rows on levels that are already set up.

@@ -2,8 +2,6 @@
 
 use walugtirim::lent::Given;
 
-use crate::raw::Frame;
-
 /// A packed sheet with its frame.
 pub struct Sheet {
     pub width: usize,
@@ -43,6 +41,22 @@ impl Sheet {
             height: self.height,
             margin,
         }
+    }
+}
+
+/// A frame and the margin around it in the levels, as the C of `bench/c` takes it.
+#[derive(Clone, Copy)]
+#[repr(C)]
+pub struct Frame {
+    pub width: usize,
+    pub height: usize,
+    pub margin: usize,
+}
+
+impl Frame {
+    /// How many levels there are.
+    pub fn points(self) -> usize {
+        (self.width + 2 * self.margin) * (self.height + 2 * self.margin)
     }
 }
 
