@@ -168,9 +168,10 @@ uint32_t wt_start_cropped(uint64_t width, uint64_t height,
 /*
  * Continues a run by so many rows, or by the rows still due where these are fewer.
  *
- * The record has to be the one last given, and the levels the run's own, which nothing else has written: no call can see that. A
- * later record beside earlier levels passes unseen, as do an earlier record and later levels, and what is then taken for the
- * run's picture is none. The same holds of wt_collect, wt_threshold and wt_provisional.
+ * The record has to be the one last given, and the levels the run's own, which nothing else has written: no call can see
+ * that. A later record beside earlier levels passes unseen, and what is then taken for the picture need not be one; an
+ * earlier record beside later levels passes unseen too. The same holds of wt_collect, wt_threshold and wt_provisional, and
+ * of wt_write_pgm, which takes the levels that were collected.
  *
  *   record      56 words, the record last given; its rows done grow by the rows worked, all else stays
  *   levels      the run's levels, as many as its frame (erosion) or canvas (dilation, cropped) has points; worked row by

@@ -4,8 +4,8 @@
 //! order, the first that applies is given.
 //!
 //! A run is its record and its levels together: the record has to be the one last returned, and the levels the run's
-//! own, which nothing else has written. The library can't see it otherwise: a later record beside earlier levels passes
-//! unseen, and its picture is then wrong; an earlier record beside later levels passes unseen too.
+//! own, which nothing else has written. The library can't see that: a later record beside earlier levels passes unseen,
+//! and its picture need not be one; an earlier record beside later levels passes unseen too.
 //!
 //! This is the only module with `unsafe`. Every slice goes over as its pointer and its count, so the two always belong
 //! together, and Rust's own rules keep a slice that is written from overlapping another. The library accepts any

@@ -466,9 +466,9 @@ impl Run {
     /// A run as a batch system has kept it: the record and the levels of [`Run::into_parts`].
     ///
     /// Nothing is judged here; the next call on the run refuses what no start could have given. But the record has to be
-    /// the one last returned, and the levels the run's own, which nothing else has written: the library can't see it
-    /// otherwise. A later record beside earlier levels passes unseen, and its picture is then wrong; an earlier record
-    /// beside later levels passes unseen too.
+    /// the one last returned, and the levels the run's own, which nothing else has written: the library can't see that. A
+    /// later record beside earlier levels passes unseen, and its picture need not be one; an earlier record beside later
+    /// levels passes unseen too.
     #[must_use]
     pub fn from_parts(record: [u64; RECORD_WORDS], levels: Vec<u16>) -> Run {
         Run { record, levels }

@@ -94,6 +94,22 @@ fn unsound_sheets_can_be_compared() {
     }
 }
 
+/// What no call can see, as the documentation of `Run::from_parts` says.
+#[test]
+fn a_record_beside_levels_of_another_time_passes() {
+    let sheet = Sheet::new(3, 3, vec![0xE0; 3]);
+    let begun = Run::start_erosion(&sheet, &Element::cross()).unwrap();
+    let mut finished = begun.clone();
+    finished.finish().unwrap();
+    let (early_record, early_levels) = begun.into_parts();
+    let (late_record, late_levels) = finished.into_parts();
+    // No picture of the sheet: no row has worked on these levels.
+    let picture = Run::from_parts(late_record, early_levels).collect();
+    assert_eq!(picture.unwrap(), [65535; 9]);
+    let again = Run::from_parts(early_record, late_levels).continue_by(6);
+    assert!(again.unwrap().done);
+}
+
 #[test]
 fn full_sheet_and_cross() {
     let sheet = Sheet::new(3, 3, vec![0xE0; 3]);

@@ -2,6 +2,7 @@
 //!
 //! Usage: `documents ROOT`
 //!
+//! - Each C function of the header is a public call, and no public call has a `requires`.
 //! - `docs/PROMISES.md` has a row for each public call, and lists what a reader must believe: the files that the contracts of
 //!   public calls and the theorems named there reach through their `use` lines, each with its lines, and no other.
 //! - `README.md` has the same totals, a row for each C function, and an opening that stays short.
@@ -95,6 +96,19 @@ fn check_promises(tally: &mut Tally, sources: &Sources, promises: &Promises) {
     );
 }
 
+/// That the header's functions are the public ones, and that no public call asks anything of its caller.
+fn check_calls(tally: &mut Tally, sources: &Sources, functions: &[String]) {
+    let public = sources.functions();
+    let names: Vec<String> = public.keys().cloned().collect();
+    tally.check("the header's functions", differing(functions, &names));
+    let calls = sources.calls().into_iter().chain(public);
+    let asking = calls.filter(|(_, contract)| contract.contains("requires"));
+    tally.check(
+        "no public call has a `requires`",
+        asking.map(|(call, _)| call).collect(),
+    );
+}
+
 fn check_readme(tally: &mut Tally, root: &Path, promises: &Promises, functions: &[String]) {
     let readme = read(root, "README.md");
     let totals = promises::numbers_before(&readme, "lines");
@@ -155,8 +169,10 @@ fn main() -> ExitCode {
     let orders = boundary::orders_of_header(&header);
     let functions: Vec<String> = orders.into_iter().map(|(name, _)| name).collect();
 
+    let sources = Sources::read(root);
     let mut tally = Tally::default();
-    check_promises(&mut tally, &Sources::read(root), &promises);
+    check_calls(&mut tally, &sources, &functions);
+    check_promises(&mut tally, &sources, &promises);
     check_readme(&mut tally, root, &promises, &functions);
     check_rules(&mut tally, &read(root, "docs/RULES.md"), &header);
     check_files(&mut tally, root);

@@ -84,7 +84,7 @@ impl Promises {
 
     /// The public calls without a row or with another contract, and the rows of no public call.
     pub fn wrong_contracts(&self, sources: &Sources) -> Vec<String> {
-        let calls = sources.contracts();
+        let calls = sources.calls();
         let mut wrong = Vec::new();
         for (call, names) in &calls {
             match self.contracts.get(call) {

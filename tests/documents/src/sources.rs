@@ -12,7 +12,7 @@ struct Use {
 }
 
 /// One file of Rattle (`.rt`) or of its logic (`.antt`).
-pub struct Source {
+struct Source {
     text: String,
     uses: Vec<Use>,
 }
@@ -183,28 +183,34 @@ impl Sources {
             .collect()
     }
 
-    /// The public calls of the library, those of the C boundary left out, each with the names in its contract.
-    pub fn contracts(&self) -> BTreeMap<String, BTreeSet<String>> {
+    /// The public calls whose declarations begin so, each with the names in its contract: what it requires and ensures.
+    fn calls_declared(&self, begin: &str) -> BTreeMap<String, BTreeSet<String>> {
         let calls = self.files.values().flat_map(Source::public_calls);
         let contract = |call: String| {
             let mut lines = call.lines();
-            let name = lines
-                .find_map(|line| line.strip_prefix("pub fn "))?
-                .split('(')
-                .next()?;
-            let (_, contract) = call.split_once("ensures")?;
-            Some((name.to_string(), names_in(contract)))
+            let rest = lines.find_map(|line| line.strip_prefix(begin))?;
+            let name = rest.split('(').next()?;
+            Some((name.to_string(), names_in(&call)))
         };
         calls.filter_map(contract).collect()
+    }
+
+    /// The public calls of the library.
+    pub fn calls(&self) -> BTreeMap<String, BTreeSet<String>> {
+        self.calls_declared("pub fn ")
+    }
+
+    /// The functions of the C boundary.
+    pub fn functions(&self) -> BTreeMap<String, BTreeSet<String>> {
+        self.calls_declared("pub extern \"C\" fn ")
     }
 
     /// The files that the statement of a theorem names; nothing where proofs/ declare no such theorem.
     pub fn named_by_theorem(&self, name: &str) -> Option<BTreeSet<String>> {
         let mut found = None;
-        for (file, source) in &self.files {
-            let statements = source.statements_of(name);
-            if is_of_laws(file) && !statements.is_empty() {
-                let named = statements.iter().flat_map(|text| source.files_named(text));
+        for (_, source) in self.files.iter().filter(|(file, _)| is_of_laws(file)) {
+            for statement in source.statements_of(name) {
+                let named = source.files_named(&statement);
                 found.get_or_insert_with(BTreeSet::new).extend(named);
             }
         }
