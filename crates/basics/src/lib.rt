@@ -1,4 +1,5 @@
 // What every layer shares: the order of refusals, tables, limits, and laws about them. Its only code are the limits.
+#![tactic(auto)]
 
 // A side of a frame or of a canvas.
 pub const LONGEST_SIDE: usize = 4096;

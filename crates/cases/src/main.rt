@@ -2,6 +2,8 @@
 // (the file `stdin`), so a new case is a line there and nothing to prove here; for each the program prints the call, the case and
 // the number answered, 0 where it is accepted. Then case 10, how many points slices of rows lower, cropped sheets, two points
 // dilated by a map, and the spectrum of case 6.
+#![tactic(auto)]
+
 use libc::STDIN_FILENO;
 
 mod asking;

@@ -1,4 +1,6 @@
 // Numbers as decimal digits, written and read for every file format.
+#![tactic(auto)]
+
 ghost use Rattle.std.specs.Prelude.{◌≡◌, true, ◌+◌, ◌-◌, ◌*◌, ◌<◌, ◌≤◌, min, length, drop};
 ghost use Rattle.decimal.specs.Numbers.{is_digit, value, digits, digit_run, written};
 

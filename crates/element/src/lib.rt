@@ -1,4 +1,6 @@
 // Elements: from a side and its bytes to seven rows of seven cells, the flat row of a record, and reflection.
+#![tactic(auto)]
+
 ghost use Rattle.std.specs.Prelude.{◌≡◌, true, cond, eqb, ◌+◌, ◌-◌, ◌*◌, ◌<◌, ◌≤◌, length, get_or};
 ghost use Rattle.basics.specs.Bounds.{any_above};
 ghost use Rattle.basics.specs.Refusals.{first};

@@ -1,4 +1,6 @@
 // Erodes a raw PBM file with the cross: reads it on standard input, and prints the levels as plain PGM, or a refusal.
+#![tactic(auto)]
+
 use libc::{STDIN_FILENO, STDOUT_FILENO};
 
 fn main() {

@@ -1,4 +1,6 @@
 // Opening, closing and their transforms: a finished erosion or dilation, and the way back from it at each size asked for.
+#![tactic(auto)]
+
 pub mod answering;
 pub mod back;
 pub mod judging;

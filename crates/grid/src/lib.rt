@@ -1,1 +1,2 @@
 // The infinite grid: definitions (specs/) and their laws (proofs/). It has no code to run.
+#![tactic(auto)]

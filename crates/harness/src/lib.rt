@@ -1,4 +1,6 @@
 // The library's boundary to C: each call of the library as a plain C function over numbers and slices.
+#![tactic(auto)]
+
 pub mod answers;
 pub mod files;
 pub mod filtering;

@@ -1,4 +1,6 @@
 // Raw PBM: sheets read from files and written to them.
+#![tactic(auto)]
+
 ghost use Rattle.std.specs.Prelude.{◌≡◌, false, not, cond, eqb, ◌+◌, ◌-◌, ◌*◌, ◌%◌, ◌^◌, ◌<◌, ◌≤◌, length, drop};
 ghost use Rattle.basics.specs.Limits.{longest_side};
 ghost use Rattle.basics.specs.Refusals.{first};

@@ -1,4 +1,6 @@
 // Levels written as plain PGM text: its length, and the text.
+#![tactic(auto)]
+
 pub mod finished;
 
 ghost use Rattle.std.specs.Prelude.{◌≡◌, ◌∷◌, [], ◌++◌, ◌+◌, ◌-◌, ◌*◌, ◌<◌, ◌≤◌, length};

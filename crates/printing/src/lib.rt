@@ -1,4 +1,6 @@
 // What the program prints, as one function from the input's bytes to the output's.
+#![tactic(auto)]
+
 ghost use Rattle.std.specs.Prelude.{◌≡◌, ◌*◌, ◌<◌, ◌≤◌, length, take};
 ghost use Rattle.run.specs.Records.{due};
 ghost use Rattle.run.specs.Continuing.{with_rows};

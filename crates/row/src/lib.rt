@@ -1,5 +1,7 @@
 // The row rule on a part of the levels. The row is worked in a buffer of its own: by the rows already met, whole row by whole row,
 // then by the own row, column by column. Then it is stored, and the levels that fell are counted.
+#![tactic(auto)]
+
 ghost use Rattle.std.specs.Prelude.{◌≡◌, ◌≢◌, true, false, cond, ◌+◌, ◌-◌, ◌*◌, ◌<◌, ◌≤◌, min, ltb, length, get_or, set};
 ghost use Rattle.basics.specs.Limits.{longest_side};
 ghost use Rattle.row.specs.RowRule.{none, more, within, place, least, row_rule, points_lowered};

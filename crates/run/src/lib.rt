@@ -1,5 +1,7 @@
 // Runs: starting, continuing, collecting and thresholding erosions, dilations and erosions of cropped sheets, and a look at one
 // under way.
+#![tactic(auto)]
+
 pub mod continuing;
 pub mod kinds;
 pub mod pictures;

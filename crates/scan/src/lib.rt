@@ -1,5 +1,7 @@
 // A scan of rows over lent levels: each row is worked in the part of the levels that begins where docs/RULES.md says, and how many
 // points it lowers is answered.
+#![tactic(auto)]
+
 ghost use Rattle.std.specs.Prelude.{◌≡◌, ◌+◌, ◌<◌, ◌≤◌, min, length};
 ghost use Rattle.basics.specs.Limits.{longest_side};
 ghost use Rattle.row.specs.RowRule.{row_rule, points_lowered};

@@ -1,4 +1,6 @@
 // Sheets: the packed raster, its checks and its pixels.
+#![tactic(auto)]
+
 ghost use Rattle.std.specs.Prelude.{◌≡◌, ◌+◌, ◌*◌, ◌/◌, ◌<◌, ◌≤◌, length};
 ghost use Rattle.basics.specs.Limits.{longest_side};
 ghost use Rattle.basics.specs.Refusals.{first};

@@ -1,4 +1,6 @@
 // The spectrum of sizes: how many of the frame's points have each opening level, and two fractions of the foreground.
+#![tactic(auto)]
+
 mod blank;
 mod counting;
 mod fractions;

@@ -1,4 +1,6 @@
 // Texts written into lent buffers, piece after piece; every file format is written with these.
+#![tactic(auto)]
+
 ghost use Rattle.std.specs.Prelude.{◌++◌, ◌+◌, ◌≤◌, length};
 ghost use Rattle.decimal.specs.Numbers.{digits};
 ghost use Rattle.text.specs.Writing.{Wrote};
