@@ -1,0 +1,9 @@
+-- The digits stand from the last on; with the digits of what is left they make the whole.
+use Rattle.decimal.proofs.LoopLaws.{Writing}
+use Rattle.decimal.proofs.write_number.Given as goal
+
+abbrev pub invariant-loop-left : goal.invariant-loop-left
+invariant-loop-left l = Writing l.n l.at l.initial.out l.left l.i l.out
+
+abbrev pub decreases-loop-left : goal.decreases-loop-left
+decreases-loop-left l = l.left

@@ -1,0 +1,56 @@
+use native.Mathlib.Omega.{arith}
+use Prim.Native.Nat.{◌≤◌, ◌<◌}
+use mathlib.Core.Path.{◌≡◌, refl, ◌∙◌}
+use Rattle.row.specs.RowRule.{none}
+use Rattle.row.proofs.Own.{place_below, kept_start, kept_turn}
+use Rattle.row.proofs.by_three.Goals as goal
+
+pub loop-t-init : goal.loop-t-init
+loop-t-init c =
+    let args = c.args in
+    let small : args.beyond ≤ none = omega arith in
+    (omega arith, (refl, ((omega arith, omega arith), rw c.wide-near.ensures.0 (kept_start _ _ _ _ _ _ _ small))))
+
+pub lower_to_least-level-requires : goal.lower_to_least-level-requires
+lower_to_least-level-requires c =
+    let args = c.args in
+    let loop-test = c.loop-t-test in
+    let column = c.column in
+    let in_row : column.result < args.width = rw column.ensures (place_below _ _ _ loop-test.true) in
+    omega arith
+
+pub loop-t-preserved : goal.loop-t-preserved
+loop-t-preserved c =
+    let earlier = c in
+    let args = earlier.args in
+    let step-of3 = c.step_of-from_far in
+    let loop = c.loop-t in
+    let column = c.column in
+    let lower-to-least = c.lower_to_least-level in
+    let lowest = rw (
+      column.ensures,
+      earlier.step_of-from_near.ensures.0,
+      earlier.step_of-from_middle.ensures.0,
+      step-of3.ensures.0,
+    ) at lower-to-least.ensures in (
+      omega arith,
+      (
+        lower-to-least.auto.worked ∙ loop.invariant.1.0,
+        (
+          (loop.invariant.1.1.1.small, loop.invariant.1.1.0.0),
+          kept_turn args.upward args.width args.beyond args.one args.two args.three loop.t loop.near
+              loop.middle loop.far lower-to-least.result args.worked.now loop.worked lower-to-least.new.worked
+              (omega arith) (omega arith) loop.invariant.1.1.1 lowest,
+        ),
+      ),
+    )
+
+pub shape_of-worked : goal.shape_of-worked
+shape_of-worked c = c.loop-t.invariant.1.0
+
+pub returns : goal.returns
+returns c =
+    let args = c.args in
+    let loop = c.loop-t in
+    let all : loop.t ≡ args.width = omega arith in
+    rw all at loop.invariant.1.1.1.so_far
