@@ -1,0 +1,92 @@
+-- Each answer follows from what the header, the raster and the room were found to be.
+use Rattle.pbm.proofs.Reading.{header_refuses, at_within, frame_in, raster_refuses, room_refuses, copy_there, copy_room}
+use Rattle.pbm.proofs.Reading.{read_accepts}
+use Rattle.pbm.proofs.read_pbm.Goals as goal
+
+pub returns-then-refusal-ne0 : goal.returns-then-refusal-ne0
+returns-then-refusal-ne0 c =
+    let args = c.args in
+    rw c.read_refused.ensures
+    (header_refuses args.file.now args.out.now c.read_header-header.ensures c.if-refusal-ne0.true)
+
+pub slice_bounds-raster_refusal-count : goal.slice_bounds-raster_refusal-count
+slice_bounds-raster_refusal-count c =
+    let args = c.args in
+    at_within args.file.now args.out.now c.read_header-header.ensures c.if-refusal-ne0.false
+
+pub UNKNOWN-slice-bounds-raster-refusal-start : goal.UNKNOWN-slice-bounds-raster-refusal-start
+UNKNOWN-slice-bounds-raster-refusal-start c = sub-raster-refusal c
+
+pub raster_refusal-refusal-requires : goal.raster_refusal-refusal-requires
+raster_refusal-refusal-requires c =
+    let args = c.args in
+    frame_in args.file.now args.out.now c.read_header-header.ensures c.if-refusal-ne0.false
+
+pub returns-then-refusal-ne0-2 : goal.returns-then-refusal-ne0-2
+returns-then-refusal-ne0-2 c =
+    let args = c.args in
+    let read-header = c.read_header-header in
+    let if1 = c.if-refusal-ne0 in
+    let raster-refusal = c.raster_refusal-refusal in
+    rw c.read_refused-then-refusal-ne0-2.ensures
+    (raster_refuses args.file.now args.out.now read-header.ensures if1.false raster-refusal.ensures
+    c.if-refusal-ne0-2.true)
+
+pub overflow_sub-file : goal.overflow_sub-file
+overflow_sub-file c =
+    let args = c.args in
+    let read-header = c.read_header-header in
+    let if1 = c.if-refusal-ne0 in
+    at_within args.file.now args.out.now read-header.ensures if1.false
+
+pub returns-then-out-file : goal.returns-then-out-file
+returns-then-out-file c =
+    let args = c.args in
+    let read-header = c.read_header-header in
+    let if1 = c.if-refusal-ne0 in
+    let raster-refusal = c.raster_refusal-refusal in
+    rw c.read_refused-then-out-file.ensures
+    (room_refuses args.file.now args.out.now read-header.ensures if1.false raster-refusal.ensures
+    c.if-refusal-ne0-2.false c.if-out-file.true)
+
+pub slice_bounds-copy_cleared-count : goal.slice_bounds-copy_cleared-count
+slice_bounds-copy_cleared-count c =
+    let args = c.args in
+    let read-header = c.read_header-header in
+    let if1 = c.if-refusal-ne0 in
+    at_within args.file.now args.out.now read-header.ensures if1.false
+
+pub UNKNOWN-slice-bounds-copy-cleared-start : goal.UNKNOWN-slice-bounds-copy-cleared-start
+UNKNOWN-slice-bounds-copy-cleared-start c = sub-copy-cleared c
+
+pub copy_cleared-requires : goal.copy_cleared-requires
+copy_cleared-requires c =
+    let args = c.args in
+    let read-header = c.read_header-header in
+    let if1 = c.if-refusal-ne0 in
+    let raster-refusal = c.raster_refusal-refusal in
+    let if2 = c.if-refusal-ne0-2 in
+    let f = frame_in args.file.now args.out.now read-header.ensures if1.false in (
+      f.0,
+      (
+        f.1,
+        (
+          copy_there args.file.now args.out.now read-header.ensures if1.false
+              raster-refusal.ensures if2.false,
+          copy_room args.file.now args.out.now read-header.ensures if1.false
+              raster-refusal.ensures if2.false c.if-out-file.false,
+        ),
+      ),
+    )
+
+pub returns : goal.returns
+returns c =
+    let args = c.args in
+    let read-header = c.read_header-header in
+    let if1 = c.if-refusal-ne0 in
+    let raster-refusal = c.raster_refusal-refusal in
+    let if2 = c.if-refusal-ne0-2 in
+    let if3 = c.if-out-file in
+    let copy-cleared = c.copy_cleared in
+    read_accepts args.file.now args.out.now read-header.ensures if1.false
+    raster-refusal.ensures if2.false if3.false copy-cleared.ensures
