@@ -48,7 +48,7 @@ const ROOM: [usize; 17] = [0, 0, 0, 0, 9, 3, 3, 41, 9, 1, 10, 3, 3, 9, 9, 3, 4];
 // A case: the call; the frame; how many bytes of sheet are lent, and their value; the element's side, its bytes as decimal digits
 // (9 stands for 255) and how many of them are lent; the size, cap or allowance; the record, by its number in `records`; how many
 // levels are lent, how many more to work with or as a map, and what all of them are filled with; the room for the answer.
-#[derive(Drop)]
+#[derive(Clone, Copy)]
 pub struct Case {
     pub call: usize,
     pub width: usize,

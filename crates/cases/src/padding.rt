@@ -18,7 +18,7 @@ const SHEET: usize = 6;
 const FILE: usize = 13;
 
 // What a call leaves: levels, and a packed sheet or a file at the front of the bytes.
-#[derive(Drop)]
+#[derive(Clone, Copy)]
 struct Left {
     levels: [u16; FRAME],
     bytes: [u8; FILE],

@@ -67,7 +67,7 @@ fn read_on(before: usize, byte: u8, limit: usize) -> usize
 }
 
 // A number that was read, at most the limit, and the place after its digits.
-#[derive(Drop)]
+#[derive(Clone, Copy)]
 pub struct Number {
     pub value: usize,
     pub next: usize,

@@ -102,7 +102,7 @@ pub fn find_size(run: Record, size: usize, first: &[u16], second: &mut [u16])
 }
 
 // Where the frame lies in the levels after the way back, and between which bounds a level is held there.
-#[derive(Drop)]
+#[derive(Clone, Copy)]
 pub struct HeldPart {
     pub margin: usize,
     pub low: u16,

@@ -8,7 +8,7 @@ use super::Input;
 
 // An opening or a closing, by a size or up to a cap, into a packed sheet or into levels. Opening levels have no size to ask for:
 // theirs is 0.
-#[derive(Drop)]
+#[derive(Clone, Copy)]
 pub struct Plan {
     pub closing: bool,
     pub size: usize,
@@ -16,7 +16,7 @@ pub struct Plan {
 }
 
 // The lengths of the two work buffers and of the output.
-#[derive(Drop)]
+#[derive(Clone, Copy)]
 pub struct Lengths {
     pub first: usize,
     pub second: usize,

@@ -9,7 +9,7 @@ pub mod levels;
 ghost use Rattle.filters.specs.Filters.{Opens, Closes, OpeningLevels, ClosingLevels};
 
 // The numbers of an input: the sides of the frame, and the element's side.
-#[derive(Drop)]
+#[derive(Clone, Copy)]
 pub struct Input {
     pub width: usize,
     pub height: usize,

@@ -58,7 +58,7 @@ fn begins_p4(file: &[u8]) -> bool
 const AMOUNT_END: usize = 65536;
 
 // A number of the header: whether there is one, its amount, AMOUNT_END for all from there on, and the place after it.
-#[derive(Drop)]
+#[derive(Clone, Copy)]
 struct FieldFound {
     found: bool,
     amount: usize,
@@ -110,7 +110,7 @@ fn is_white_at(file: &[u8], at: usize) -> bool
 }
 
 // A header's refusal, or 0 with the frame and the place of the raster.
-#[derive(Drop)]
+#[derive(Clone, Copy)]
 struct HeaderFound {
     refusal: u32,
     width: usize,
@@ -225,7 +225,7 @@ fn raster_refusal(width: usize, height: usize, raster: &[u8]) -> u32
     0
 }
 
-#[derive(Drop)]
+#[derive(Clone, Copy)]
 pub struct ReadPbm {
     pub refusal: u32,
     pub width: usize,
@@ -278,7 +278,7 @@ fn write_header(width: usize, height: usize, out: &mut [u8]) -> usize
     text::write_bytes(b"\n", out, end)
 }
 
-#[derive(Drop)]
+#[derive(Clone, Copy)]
 pub struct WritePbm {
     pub refusal: u32,
     pub length: usize,

@@ -8,7 +8,7 @@ ghost use Rattle.pgm.specs.WritePgm.{maximum, pgm_refusals, WritesPgm};
 use run::Record;
 
 // What writing answers: the refusal number, 0 where it is accepted, and the text's length, 0 beside a refusal.
-#[derive(Drop)]
+#[derive(Clone, Copy)]
 pub struct WritePgm {
     pub refusal: u32,
     pub length: usize,

@@ -9,7 +9,7 @@ use super::{Record, kinds, records};
 
 // What a continue answers: the refusal number, 0 where it is accepted, the new record, whether all rows are done, and how many
 // points its rows lowered.
-#[derive(Drop)]
+#[derive(Clone, Copy)]
 pub struct Continued {
     pub refusal: u32,
     pub run: Record,

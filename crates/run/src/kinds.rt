@@ -83,7 +83,7 @@ pub fn size_limit(run: Record) -> usize
 }
 
 // How a level is read: up to `limit` it is given `less` lower, but not below 0; above, `other` is given.
-#[derive(Drop)]
+#[derive(Clone, Copy)]
 pub struct Reading {
     pub limit: u16,
     pub less: u16,

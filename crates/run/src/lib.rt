@@ -12,7 +12,7 @@ pub mod starting;
 // A run's record. Kind 1 is an erosion, 2 a dilation; the cells are the element's 49 in one flat row, as given. The edge rule is 0
 // where background lies beyond the frame and 1 where foreground does, as for an erosion of a cropped sheet; a plain erosion has no
 // cap, which is then 0.
-#[derive(Drop)]
+#[derive(Clone, Copy)]
 pub struct Record {
     pub kind: u8,
     pub width: usize,

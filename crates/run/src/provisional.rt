@@ -5,7 +5,7 @@ use super::{Record, pictures, records};
 
 // What a look answers: the refusal number, 0 where it is accepted, and whether all rows are done, so that the
 // sheet is final.
-#[derive(Drop)]
+#[derive(Clone, Copy)]
 pub struct Look {
     pub refusal: u32,
     pub done: bool,

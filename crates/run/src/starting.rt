@@ -12,7 +12,7 @@ ghost use Rattle.run.specs.Patches.{Patch, Canvas};
 use super::{Record, kinds, records};
 
 // What a start answers: the refusal number, 0 where it is accepted, and the run's record, all zero beside a refusal.
-#[derive(Drop)]
+#[derive(Clone, Copy)]
 pub struct Started {
     pub refusal: u32,
     pub run: Record,

@@ -14,14 +14,14 @@ use filters::Input;
 use filters::judging::Plan;
 
 // The mean opening level over the foreground, and the share of the foreground at level 1.
-#[derive(Drop)]
+#[derive(Clone, Copy)]
 pub struct Summary {
     pub mean: f64,
     pub share: f64,
 }
 
 // What the call answers: the refusal number, 0 where it is accepted, and the summary, zero beside a refusal.
-#[derive(Drop)]
+#[derive(Clone, Copy)]
 pub struct Answer {
     pub refusal: u32,
     pub summary: Summary,

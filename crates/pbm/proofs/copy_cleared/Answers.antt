@@ -41,7 +41,7 @@ loop-k-preserved c =
     let b = c.shared_slice_known-in-loop-k-1.given loop.k in
     clearing_turn loop.invariant loop-test.true
     (get_or c.args.raster.now loop.k 0)
-    cleared-byte.result c.left_After.result refl (omega arith) cleared-byte.ensures c.left_After.ensures
+    cleared-byte.result c.left_after-left.result refl (omega arith) cleared-byte.ensures c.left_after-left.ensures
 
 pub shape_of-out : goal.shape_of-out
 shape_of-out c = clearing_length c.loop-k.invariant

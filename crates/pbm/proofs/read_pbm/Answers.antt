@@ -14,8 +14,8 @@ slice_bounds-raster_refusal-count c =
     let args = c.args in
     at_within args.file.now args.out.now c.read_header-header.ensures c.if-refusal-ne0.false
 
-pub UNKNOWN-slice-bounds-raster-refusal-start : goal.UNKNOWN-slice-bounds-raster-refusal-start
-UNKNOWN-slice-bounds-raster-refusal-start c = sub-raster-refusal c
+pub slice_bounds-raster_refusal-start : goal.slice_bounds-raster_refusal-start
+slice_bounds-raster_refusal-start c = slice_bounds-raster_refusal-count c
 
 pub raster_refusal-refusal-requires : goal.raster_refusal-refusal-requires
 raster_refusal-refusal-requires c =
@@ -56,8 +56,8 @@ slice_bounds-copy_cleared-count c =
     let if1 = c.if-refusal-ne0 in
     at_within args.file.now args.out.now read-header.ensures if1.false
 
-pub UNKNOWN-slice-bounds-copy-cleared-start : goal.UNKNOWN-slice-bounds-copy-cleared-start
-UNKNOWN-slice-bounds-copy-cleared-start c = sub-copy-cleared c
+pub slice_bounds-copy_cleared-start : goal.slice_bounds-copy_cleared-start
+slice_bounds-copy_cleared-start c = slice_bounds-copy_cleared-count c
 
 pub copy_cleared-requires : goal.copy_cleared-requires
 copy_cleared-requires c =

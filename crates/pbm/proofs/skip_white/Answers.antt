@@ -1,6 +1,5 @@
 use Rattle.pbm.proofs.RunLaws.{skipping_start, skipping_turn, skipping_stop, skipping_end}
 use Rattle.pbm.specs.Header.{is_white}
-use borrow.Author.Tests.{not-true, not-false}
 use native.Mathlib.Omega.{arith}
 use mathlib.Core.Path.{sym, ◌∙◌}
 use Rattle.pbm.proofs.skip_white.Goals as goal
@@ -12,13 +11,13 @@ pub returns-then-not-is_white : goal.returns-then-not-is_white
 returns-then-not-is_white c =
     let loop = c.loop-i in
     let loop-test = c.loop-i-test in
-    skipping_stop loop.invariant loop-test.true (sym c.is_white.ensures ∙ not-true _ c.if-not-is_white.true)
+    skipping_stop loop.invariant loop-test.true (sym c.is_white.ensures ∙ c.if-not-is_white.true)
 
 pub loop-i-preserved : goal.loop-i-preserved
 loop-i-preserved c =
     let loop = c.loop-i in
     let loop-test = c.loop-i-test in
-    skipping_turn loop.invariant loop-test.true (sym c.is_white.ensures ∙ not-false _ c.if-not-is_white.false)
+    skipping_turn loop.invariant loop-test.true (sym c.is_white.ensures ∙ c.if-not-is_white.false)
 
 pub returns : goal.returns
 returns c = skipping_end c.loop-i.invariant c.loop-i-test.false

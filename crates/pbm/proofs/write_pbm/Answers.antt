@@ -28,7 +28,7 @@ overflow_add-size-3 c =
     let d = c.digit_count.ensures in let e = c.digit_count-2.ensures in omega arith
 
 pub overflow_add-size-2 : goal.overflow_add-size-2
-overflow_add-size-2 c = let l = add-size-3 c in omega arith
+overflow_add-size-2 c = let l = overflow_add-size-3 c in omega arith
 
 pub returns-then-out-size : goal.returns-then-out-size
 returns-then-out-size c =
@@ -62,8 +62,8 @@ slice_bounds-copy_cleared-count c =
     if1.false (sizes _ _ _ _ args.sheet.now digit-count.ensures digit-count2.ensures) if2.false
     write-header.ensures
 
-pub UNKNOWN-slice-bounds-copy-cleared-start : goal.UNKNOWN-slice-bounds-copy-cleared-start
-UNKNOWN-slice-bounds-copy-cleared-start c = sub-copy-cleared c
+pub slice_bounds-copy_cleared-start : goal.slice_bounds-copy_cleared-start
+slice_bounds-copy_cleared-start c = slice_bounds-copy_cleared-count c
 
 pub copy_cleared-requires : goal.copy_cleared-requires
 copy_cleared-requires c =

@@ -1,0 +1,9 @@
+-- One continue by 8,192 rows is accepted and works all that are due.
+use Rattle.filters.proofs.BackSteps.{finish_rows}
+use Rattle.filters.proofs.back.finish.Goals as goal
+
+pub returns : goal.returns
+returns c =
+    let args = c.args in
+    let pre = c.requires in
+    finish_rows args.run pre.0 pre.1.0 args.levels.now pre.1.1 c.continue_run.ensures

@@ -1,0 +1,12 @@
+-- The plan's answer is the call's: their lists of refusals give one number, and the same is right.
+use Rattle.filters.proofs.Refusing.{close_answered}
+use Rattle.filters.specs.Filters.{Buffers}
+use Rattle.filters.proofs.close.Goals as goal
+
+pub returns : goal.returns
+returns c =
+    let answered = c in
+    let args = answered.args in
+    let lent : Buffers = record { first = args.first.now; second = args.second.now; out = args.out.now } in
+    close_answered args.input args.sheet.now args.bytes.now args.size lent
+    answered.answer_sheet.ensures
