@@ -1,7 +1,7 @@
 -- The maximum, and the end of its line.
 use Rattle.decimal.specs.Numbers.{digits}
 use Rattle.text.proofs.WroteLaws.{room_first, room_second, wrote_both}
-use mathlib.Core.List.{◌∷◌}
+use mathlib.Core.List.{[], ◌∷◌}
 use Rattle.pgm.proofs.write_maximum.Goals as goal
 
 pub write_labelled-next-requires : goal.write_labelled-next-requires

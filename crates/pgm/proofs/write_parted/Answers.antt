@@ -10,7 +10,7 @@ returns c =
     let pre = c.requires in
     let write-number = c.write_number-next in
     let number = write-number in
-    wrote_parted args.level args.column args.at args.out.now number.new.1.0 number.result
+    wrote_parted args.level args.column args.at args.out.now number.new.out number.result
     c.parting_byte-byte.result pre.1
-    (wrote_number args.level (args.at + 1) args.out.now number.new.1.0 number.result number.ensures)
+    (wrote_number args.level (args.at + 1) args.out.now number.new.out number.result number.ensures)
     c.parting_byte-byte.ensures

@@ -24,7 +24,7 @@ loop-i-preserved c =
     let write-parted = c.write_parted-next in
     let widened = wide in
     let parted = write-parted in
-    rest_turn loop.invariant widened.result parted.new.1.1.0 parted.result c.column_after-column.result
+    rest_turn loop.invariant widened.result parted.new.out parted.result c.column_after-column.result
     widened.ensures.0 loop-test.true parted.ensures c.column_after-column.ensures
 
 pub bounds-out-end : goal.bounds-out-end

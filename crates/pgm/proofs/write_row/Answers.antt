@@ -19,7 +19,7 @@ write_rest-requires c =
     let widened = wide in
     let number = write-number in
     row_rest args.row.now widened.result args.at args.out.now pre.0 widened.ensures.0 pre.1
-    (wrote_number widened.result args.at args.out.now number.new.1.0 number.result number.ensures)
+    (wrote_number widened.result args.at args.out.now number.new.out number.result number.ensures)
 
 pub returns : goal.returns
 returns c =
@@ -30,5 +30,5 @@ returns c =
     let widened = wide in
     let number = write-number in
     row_wrote args.row.now widened.result args.at args.out.now pre.0 widened.ensures.0 pre.1
-    (wrote_number widened.result args.at args.out.now number.new.1.0 number.result number.ensures)
+    (wrote_number widened.result args.at args.out.now number.new.out number.result number.ensures)
     c.write_rest.ensures

@@ -1,0 +1,37 @@
+use Rattle.spectrum.proofs.LevelCounts.{added_turn, added_end}
+use Rattle.spectrum.proofs.TableSums.{weighed_within, weighed_term}
+use Rattle.basics.proofs.SumLaws.{sum_none}
+use native.Mathlib.Omega.{arith}
+use mathlib.Core.Path.{refl, sym}
+use Rattle.spectrum.proofs.fractions.levels_added.Goals as goal
+
+pub loop-n-init : goal.loop-n-init
+loop-n-init c = (omega arith, sym (sum_none _))
+
+pub overflow_mul-added : goal.overflow_mul-added
+overflow_mul-added c =
+    let entry = c in
+    let term = weighed_term entry.args.table.now entry.requires c.loop-n.n c.loop-n-test.true in
+    omega arith
+
+pub overflow_add-added : goal.overflow_add-added
+overflow_add-added c =
+    let entry = c in
+    let loop = c.loop-n in
+    let term = weighed_term entry.args.table.now entry.requires loop.n c.loop-n-test.true in
+    let rest = weighed_within entry.args.table.now entry.requires loop.n loop.invariant.0 in
+    let e = loop.invariant.1 in
+    omega arith
+
+pub loop-n-preserved : goal.loop-n-preserved
+loop-n-preserved c =
+    let loop = c.loop-n in
+    let turn = c.loop-n-test.true in
+    (omega arith, added_turn _ loop.invariant.1 refl)
+
+pub returns : goal.returns
+returns c =
+    let loop = c.loop-n in
+    let below = loop.invariant.0 in
+    let left = c.loop-n-test.false in
+    added_end _ _ loop.invariant.1 (omega arith)
