@@ -9,7 +9,7 @@ use Rattle.spectrum.proofs.blank.any_in_row.Given as goal
 
 abbrev pub invariant-loop-col : goal.invariant-loop-col
 invariant-loop-col l =
-    (col ≤ l.width) × (l.found ≡ ltb 0 (sum col (λ col. cond (eqb (pixel l.width l.sheet l.row col) 1) 1 0)))
+    (l.col ≤ l.width) × (l.found ≡ ltb 0 (sum l.col (λ col. cond (eqb (pixel l.width l.sheet l.row col) 1) 1 0)))
 
 abbrev pub decreases-loop-col : goal.decreases-loop-col
 decreases-loop-col l = l.width - l.col
