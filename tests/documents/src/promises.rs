@@ -135,14 +135,17 @@ impl Belief {
         }
         let mut undeclared = Vec::new();
         for name in &promises.names {
-            // A name with a hyphen is no word of prose. One without may be that of a statement's part, and then is no theorem's.
-            let hyphen = name.contains('-') && !name.contains([' ', '/', '.', '_']);
+            // A name of words joined by `_` is no word of prose. It may be a function's, or that of a statement's part, as may a
+            // name of one word be, and then is no theorem's.
+            let joined = name.contains('_') && !name.contains([' ', '/', '.', '-', ':']);
             let part = sources.specifies(name);
             match sources.named_by_theorem(name) {
-                Some(files) if hyphen || !part => {
+                Some(files) if joined || !part => {
                     found.extend(files.into_iter().map(|file| (file, name.clone())));
                 }
-                None if hyphen && !part => undeclared.push(format!("`{name}` is declared nowhere")),
+                None if joined && !part && !sources.runs(name) => {
+                    undeclared.push(format!("`{name}` is declared nowhere"));
+                }
                 _ => {}
             }
         }

@@ -30,30 +30,48 @@ pub fn read(root: &Path, name: &str) -> String {
     fs::read_to_string(root.join(name)).unwrap_or_else(|error| panic!("{name}: {error}"))
 }
 
-/// The file of a module: `Rattle·run.specs.Kinds` or, within its own crate, `Rattle·run·specs.specs.Kinds`. Nothing of the kit's
-/// modules, nor of those that `rt` makes of the structs in src/ (`specs.declared`).
+/// The kit's libraries whose modules are used. Their names begin as those of our crates do.
+const KIT: [&str; 1] = ["std"];
+
+/// The file of a module such as `Rattle.run.specs.Kinds`. Nothing of the kit's modules, nor of those that `rt` makes of the structs
+/// in src/ (`specs.declared`).
 fn file_of(module: &str) -> Option<String> {
-    let (first, rest) = module.strip_prefix("Rattle·")?.split_once('.')?;
-    let name = first.split('·').next()?;
-    if rest.starts_with("specs.declared.") {
+    let (name, rest) = module.strip_prefix("Rattle.")?.split_once('.')?;
+    if KIT.contains(&name) || rest.starts_with("specs.declared.") {
         return None;
     }
     Some(format!("crates/{name}/{}.antt", rest.replace('.', "/")))
 }
 
-fn use_of(line: &str) -> Option<Use> {
-    let words = line.trim_start();
+/// The use that a text begins with. Its names may go on in the lines below; one that is taken as another counts as that other.
+fn use_at(text: &str) -> Option<Use> {
+    let words = text.trim_start_matches(' ');
     let words = words.strip_prefix("pub ").unwrap_or(words);
     let words = words.strip_prefix("ghost ").unwrap_or(words);
     let (module, names) = words.strip_prefix("use ")?.split_once(".{")?;
-    let names = names.split('}').next()?;
+    if module.contains(char::is_whitespace) {
+        // a module taken whole, and what stands below it
+        return None;
+    }
+    let names = names.split('}').next()?.split(',');
     Some(Use {
         file: file_of(module)?,
         names: names
-            .split(',')
+            .filter_map(|name| name.split(" as ").last())
             .map(|name| name.trim().to_string())
             .collect(),
     })
+}
+
+/// All uses of a file.
+fn uses_in(text: &str) -> Vec<Use> {
+    let mut uses = Vec::new();
+    let mut rest = Some(text);
+    while let Some(below) = rest {
+        uses.extend(use_at(below));
+        rest = below.split_once('\n').map(|(_, below)| below);
+    }
+    uses
 }
 
 /// The names in a text, remarks left out.
@@ -103,7 +121,7 @@ fn statement<'a>(lines: &[&'a str], begin: usize) -> Vec<&'a str> {
 
 impl Source {
     fn new(text: String) -> Source {
-        let uses = text.lines().filter_map(use_of).collect();
+        let uses = uses_in(&text);
         Source { text, uses }
     }
 
@@ -128,6 +146,16 @@ impl Source {
             .collect()
     }
 
+    /// Whether this file declares a function.
+    fn has_function(&self, name: &str) -> bool {
+        let mut heads = self.text.lines().filter_map(|line| {
+            let (before, rest) = line.split_once("fn ")?;
+            let is_head = (before.is_empty() || before.ends_with(' ')) && !before.contains("//");
+            is_head.then(|| rest.split(['(', '<']).next())?
+        });
+        heads.any(|head| head == name)
+    }
+
     /// The head of each public call: what stands between its remark `// Public:` and its body.
     fn public_calls(&self) -> Vec<String> {
         let mut calls = Vec::new();
@@ -150,7 +178,10 @@ impl Sources {
                 let name = path.strip_prefix(root).expect("below the root");
                 let name = name.to_str().expect("names are text").to_string();
                 if path.is_dir() {
-                    folders.push(path);
+                    // what `rt` leaves in a crate is no source
+                    if !name.ends_with("/out") {
+                        folders.push(path);
+                    }
                 } else if name.ends_with(".antt") || name.ends_with(".rt") {
                     files.insert(name.clone(), Source::new(read(root, &name)));
                 }
@@ -217,6 +248,13 @@ impl Sources {
         found
     }
 
+    /// Whether a function of src/ has a name.
+    pub fn runs(&self, name: &str) -> bool {
+        let sources = self.files.iter().filter(|(file, _)| file.ends_with(".rt"));
+        let mut sources = sources.map(|(_, source)| source);
+        sources.any(|source| source.has_function(name))
+    }
+
     /// Whether specs/ declare a name.
     pub fn specifies(&self, name: &str) -> bool {
         let mut specs = self
@@ -241,34 +279,57 @@ mod tests {
     fn modules_have_files() {
         let file = |module| file_of(module).unwrap_or_default();
         assert_eq!(
-            file("Rattle·run.specs.Kinds"),
+            file("Rattle.run.specs.Kinds"),
             "crates/run/specs/Kinds.antt"
         );
         assert_eq!(
-            file("Rattle·run·proofs.proofs.Starts"),
+            file("Rattle.run.proofs.Starts"),
             "crates/run/proofs/Starts.antt"
         );
-        assert_eq!(file("Rattle·run.specs.declared.Record"), "");
-        assert_eq!(file("lib.ListN"), "");
+        assert_eq!(file("Rattle.run.specs.declared.Record"), "");
+        assert_eq!(file("Rattle.std.specs.Prelude"), "");
+        assert_eq!(file("mathlib.Core.Path"), "");
     }
 
-    const LAWS: &str = "use Rattle·run.specs.Kinds.{Kind, byKind}
-use Rattle·run·specs.specs.Records.{due}
-use Rattle·run.specs.Series.{Slice}
-use Rattle·grid.specs.Sets.{PointSet}
-use Rattle·grid.specs.Points.{Point}
+    #[test]
+    fn a_use_may_go_on_and_take_a_name_as_another() {
+        let text = "use Rattle.std.specs.Prelude.{ℕ}
+use Rattle.run.proofs.due.Goals as goal
+pub use Rattle.run.specs.Kinds.{Kind,
+    by_kind as chosen}
+
+ghost use Rattle.run.specs.Records.{due};
+-- use Rattle.run.specs.Series.{Slice}
+";
+        let uses = uses_in(text);
+        let found: Vec<_> = uses
+            .iter()
+            .map(|used| (used.file.as_str(), used.names.join(" ")))
+            .collect();
+        let wanted = [
+            ("crates/run/specs/Kinds.antt", "Kind chosen".to_string()),
+            ("crates/run/specs/Records.antt", "due".to_string()),
+        ];
+        assert_eq!(found, wanted);
+    }
+
+    const LAWS: &str = "use Rattle.run.specs.Kinds.{Kind, by_kind}
+use Rattle.run.specs.Records.{due}
+use Rattle.run.specs.Series.{Slice}
+use Rattle.grid.specs.Sets.{PointSet}
+use Rattle.grid.specs.Points.{Point}
 module _ (A : PointSet)
     (x : Point) where
   helper : Slice
 
   -- a remark on Kind
-  pub law : (n : Number)
-      → due n ≡ A
+  pub law_of_rows : (n : Number)
+      → due n.rows ≡ A
 
-  law n = byKind n
+  law_of_rows n = by_kind n
 
 pub other : Number
-other = law
+other = law_of_rows
 ";
 
     #[test]
@@ -280,16 +341,18 @@ other = law
             "crates/grid/specs/Sets.antt",
             "crates/run/specs/Records.antt",
         ];
-        assert_eq!(files("law"), wanted.map(String::from).into());
+        assert_eq!(files("law_of_rows"), wanted.map(String::from).into());
         assert_eq!(files("other"), BTreeSet::new());
     }
 
     #[test]
     fn a_contract_is_what_stands_before_the_body() {
-        let text = "ghost use Rattle·run.specs.Kinds.{Kind, byKind};
+        let text = "ghost use Rattle.run.specs.Kinds.{Kind, by_kind};
 // Public: Kind is no name here
-pub fn call() -> u32
-    ensures { byKind r }
+#[unsafe(no_mangle)]
+pub extern \"C\" fn call(out: &mut [u8]) -> u32
+    ensures { by_kind result.refusal
+        out.new }
 {
     Kind
 }
@@ -297,6 +360,18 @@ pub fn call() -> u32
         let source = Source::new(text.to_string());
         let calls = source.public_calls();
         assert_eq!(calls.len(), 1);
-        assert!(names_in(&calls[0]).contains("byKind") && !names_in(&calls[0]).contains("Kind"));
+        let names = names_in(&calls[0]);
+        assert!(
+            ["by_kind", "result", "refusal", "out"].map(|name| names.contains(name)) == [true; 4]
+        );
+        assert!(!names.contains("Kind"));
+    }
+
+    #[test]
+    fn functions_are_known() {
+        let source =
+            Source::new("// a fn gone(\nfn kept(n: u32) {\n    pub fn made<T>(\n".to_string());
+        let known = ["kept", "made", "gone", "n"].map(|name| source.has_function(name));
+        assert_eq!(known, [true, true, false, false]);
     }
 }
