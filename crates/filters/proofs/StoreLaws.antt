@@ -10,7 +10,7 @@ use Rattle.basics.specs.Limits.{largest_size}
 use Rattle.basics.specs.Tables.{raster}
 use Rattle.basics.proofs.TableLaws.{length-raster}
 use Rattle.run.specs.declared.Record.{Record}
-use Rattle.run.specs.Records.{margin, canvas_side}
+use Rattle.run.specs.Records.{canvas_side}
 use Rattle.run.specs.Patches.{Patch, level_in}
 use Rattle.run.specs.Kinds.{is_held_at}
 use Rattle.run.specs.Pictures.{frame_level}

@@ -15,7 +15,7 @@ use Rattle.basics.proofs.Arithmetic.{entry_of, entry_below}
 use Rattle.basics.proofs.BoundLaws.{above_next, above_end, all_within, none_above}
 use Rattle.basics.proofs.TableLaws.{length-raster, get_d_raster, get_d_table}
 use Rattle.basics.specs.Tables.{raster}
-use Rattle.grid.specs.Points.{Point, at}
+use Rattle.grid.specs.Points.{Point}
 use Rattle.sheet.specs.Sheets.{pixel}
 use Rattle.filters.specs.declared.Input.{Input}
 use Rattle.filters.specs.Filters.{frame_size, foreground_of}

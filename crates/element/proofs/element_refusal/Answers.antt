@@ -1,12 +1,8 @@
 -- Each answer follows from the tests that led to it; a side that passed is at most 7, so its square is small.
-use Rattle.basics.specs.Bounds.{any_above}
-use Rattle.element.specs.Elements.{is_side}
 use Rattle.element.proofs.ElementLaws.{side_bounds, square_small, centre_entry, refuse_side, refuse_length, refuse_byte}
 use Rattle.element.proofs.ElementLaws.{refuse_centre, refuse_alone, accept_element}
 use native.Mathlib.Omega.{arith}
-use Prim.Native.Nat.{◌+◌, ◌-◌, ◌*◌, ◌/◌, ◌≤◌, ◌<◌}
-use mathlib.Core.Bool.{true, false}
-use mathlib.Core.Path.{◌≡◌, sym, ◌∙◌}
+use mathlib.Core.Path.{sym, ◌∙◌}
 use Rattle.element.proofs.element_refusal.Goals as goal
 
 pub returns-then-not-is_side : goal.returns-then-not-is_side

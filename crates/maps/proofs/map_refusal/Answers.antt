@@ -1,5 +1,4 @@
 -- A dilation's refusals stand first; what passes them has a frame in its limits, a sheet and an element.
-use Rattle.run.proofs.Starts.{judged}
 use Rattle.run.proofs.RecordLaws.{area_small}
 use Rattle.maps.specs.Maps.{Buffers}
 use Rattle.maps.proofs.Refusing.{refused_start, refused_map, refused_out, refused_size, none_refused}

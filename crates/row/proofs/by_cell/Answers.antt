@@ -1,9 +1,8 @@
 -- The three ways out are the three cases of a cell: not set, its row in the area, its row beyond it.
 use native.Mathlib.Omega.{arith}
 use mathlib.Core.List.{List}
-use Prim.Native.Nat.{ℕ, ◌+◌, ◌*◌, ◌-◌, ◌/◌, ◌≤◌}
+use Prim.Native.Nat.{ℕ, ◌+◌, ◌/◌}
 use mathlib.Core.Path.{sym, ◌∙◌}
-use lib.ListN.{length}
 use Rattle.row.specs.RowRule.{Area, cell_number}
 use Rattle.row.proofs.Least.{row_inside, pass_unset, pass_beyond, pass_in}
 use Rattle.row.proofs.by_cell.Goals as goal

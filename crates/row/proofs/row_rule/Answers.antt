@@ -1,8 +1,7 @@
 -- The row taken, worked by the other rows and by itself, and stored, is the whole rule.
 use native.Mathlib.Omega.{arith}
 use mathlib.Core.List.{List}
-use Prim.Native.Nat.{ℕ, ◌+◌, ◌*◌, ◌≤◌}
-use lib.ListN.{length}
+use Prim.Native.Nat.{ℕ}
 use Rattle.row.specs.RowRule.{Area}
 use Rattle.row.proofs.Least.{row_end}
 use Rattle.row.proofs.Whole.{whole}

@@ -4,7 +4,7 @@ use Rattle.row.specs.RowRule.{row_rule}
 use Rattle.scan.specs.Scan.{area}
 use Rattle.scan.proofs.Windows.{start_place, part_size, row_of_part, lent_part, lent_lowered}
 use native.Mathlib.Omega.{arith}
-use Prim.Native.Nat.{◌*◌, ◌-◌, ◌≤◌, ◌<◌}
+use Prim.Native.Nat.{◌*◌, ◌-◌}
 use mathlib.Core.Path.{sym, ◌∙◌}
 use lib.ListN.{length}
 use Rattle.scan.proofs.row_in_part.Goals as goal
