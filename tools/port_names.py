@@ -17,7 +17,19 @@ FUNCTIONS = set("length append take drop set map replicate get_or reverse sum ta
 
 
 # definitions whose plain new name a lemma or a constant has
-OTHERS = {"allDigits": "digits_only", "cellSet": "is_cell_set", "noRecord": "empty_record", "packedByte": "byte_packed"}
+OTHERS = {
+    "allDigits": "digits_only",
+    "cellSet": "set_of_cells",
+    "getD-raster": "get_or-raster",
+    "getD-table": "get_or-table",
+    "noRecord": "empty_record",
+    "packedByte": "byte_packed",
+}
+
+# names that share a line of their declaration, and names that a proof or a statement binds
+MORE = """afterHeight afterWidth closingLevels dilationLevels erodedBy erosionLevels exactHeight exactWidth heightCount keptA keptB openedBy
+    openingLevels widthCount at-end in-own in-points is-final is-high is-low is-off is-on levels-asked means-of of-levels one-thing own-else
+    points-else to-element to-kind""".split()
 
 
 def files(root, ends):
@@ -82,6 +94,7 @@ def renames(root):
                 new += "_lem"
             taken.add(new)
             table[old] = new
+    table |= {old: snake(old) for old in MORE}
     return table, lemmas
 
 

@@ -17,10 +17,10 @@ module _ {A : Type 0} (f : ℕ → A) where
   length-table zero = refl
   length-table (suc n) = length-append (table n f) (f n ∷ []) ∙ ap (λ m. m + 1) (length-table n) ∙ add-one n
 
-  pub get_d_table : (n k : ℕ) (d : A) → k < n → get_or (table n f) k d ≡ f k
+  pub get_or-table : (n k : ℕ) (d : A) → k < n → get_or (table n f) k d ≡ f k
   unfolding table
-  get_d_table zero k d l = absurd (omega arith)
-  get_d_table (suc n) k d l = go (ℕ_discrete k n) (get_d_table n k d)
+  get_or-table zero k d l = absurd (omega arith)
+  get_or-table (suc n) k d l = go (ℕ_discrete k n) (get_or-table n k d)
     where
       go : Dec (k ≡ n) → (k < n → get_or (table n f) k d ≡ f k) → get_or (table n f ++ (f n ∷ [])) k d ≡ f k
       go (yes e) ih = rw e (get_or_at (table n f) (f n) [] d n (length-table n))
@@ -29,7 +29,7 @@ module _ {A : Type 0} (f : ℕ → A) where
   -- a list with f's entries is f's table
   pub table_is : (n : ℕ) (d : A) (l : List A) → length l ≡ n → ((k : ℕ) → k < n → get_or l k d ≡ f k) → l ≡ table n f
   table_is n d l s h = ext_get_or d l (table n f) (s ∙ sym (length-table n))
-      (λ k b. h k (omega arith) ∙ sym (get_d_table n k d (omega arith)))
+      (λ k b. h k (omega arith) ∙ sym (get_or-table n k d (omega arith)))
 
   -- a loop that fills a buffer: no turn yet, one turn more, all of it
   pub filled_none : (buffer : List A) → filled 0 f buffer ≡ buffer
@@ -87,10 +87,10 @@ module _ {A : Type 0} (w h : ℕ) (f : ℕ → ℕ → A) where
   unfolding raster
   length-raster = length-table (λ k. f (k / w) (k % w)) (h * w)
 
-  pub get_d_raster : (i j : ℕ) (d : A) → i < h → j < w → get_or (raster w h f) (i * w + j) d ≡ f i j
+  pub get_or-raster : (i j : ℕ) (d : A) → i < h → j < w → get_or (raster w h f) (i * w + j) d ≡ f i j
   unfolding raster
-  get_d_raster i j d a b =
-      get_d_table (λ k. f (k / w) (k % w)) (h * w) (i * w + j) d (entry_below w h i j a b) ∙ rw (row_of w i j b, column_of w i j b)
+  get_or-raster i j d a b =
+      get_or-table (λ k. f (k / w) (k % w)) (h * w) (i * w + j) d (entry_below w h i j a b) ∙ rw (row_of w i j b, column_of w i j b)
 
   -- a list with these entries, row by row, is the raster
   pub raster_is : (d : A) (l : List A) → length l ≡ h * w → ((i j : ℕ) → i < h → j < w → get_or l (i * w + j) d ≡ f i j)

@@ -124,9 +124,9 @@ module _ {r : Record} {levels : List ℕ} (started : Started r levels) (n : ℕ)
   above_final place = rw (sym finishes) (rows_lower (area_of r) (0 + n) (due r - n) own place)
 
   module _ (size : ℕ) (small : size ≤ size_limit r) where
-    look : (out : List ℕ) → length out ≡ r.height * row_bytes r.width → (number : ℕ) (is-final : Bool) (sheet : List ℕ)
-        → ShowsProvisional (with_rows r n) own size out number (is-final, sheet) → Shown started n size number is-final sheet
-    look out q number is-final sheet c =
+    look : (out : List ℕ) → length out ≡ r.height * row_bytes r.width → (number : ℕ) (is_final : Bool) (sheet : List ℕ)
+        → ShowsProvisional (with_rows r n) own size out number (is_final, sheet) → Shown started n size number is_final sheet
+    look out q number is_final sheet c =
         let z = c.refusal ∙ look_given r levels started n within size small out q in
         let answer = c.accepted z in
         let final = ap (λ t. t.0) answer in
@@ -153,12 +153,12 @@ every_cut r levels started series p =
     record {
       none_below = λ place. rw here (above_final started n (omega arith) place);
       none_raised = λ more q. calls_lower (after (at_start r levels) series) more q;
-      shown = λ size small out q number is-final sheet c. look started n (omega arith) size small out q number is-final sheet
+      shown = λ size small out q number is_final sheet c. look started n (omega arith) size small out q number is_final sheet
           (rw here at c);
     }
 
 pub final_is_ordinary : FinalIsOrdinary
-final_is_ordinary r d levels size out number is-final sheet c = record {
+final_is_ordinary r d levels size out number is_final sheet c = record {
   refusal = c.refusal ∙ rw d;
   accepted = λ z. ap (λ t. t.1) (c.accepted z);
   refused = λ z. ap (λ t. t.1) (c.refused z);

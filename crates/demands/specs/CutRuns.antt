@@ -16,10 +16,10 @@ use Rattle.run.specs.Demand2.{finished, RightSet}
 -- What a look at a size gives, n of the rows due being done: it is not refused, and final is answered exactly when all are done.
 -- At every point of the frame, an erosion's sheet contains the set eroded by the size, a dilation's lies within the set dilated by
 -- it, and a final one is that set.
-pub record Shown {r : Record} {levels : List ℕ} (started : Started r levels) (n size number : ℕ) (is-final : Bool)
+pub record Shown {r : Record} {levels : List ℕ} (started : Started r levels) (n size number : ℕ) (is_final : Bool)
     (sheet : List ℕ) : Type 0 where
   pub given : number ≡ 0
-  pub final : (is-final ≡ true) ↔ (n ≡ due r)
+  pub final : (is_final ≡ true) ↔ (n ≡ due r)
   pub contains : r.kind ≡ erosion_kind → SheetContains r.width r.height (RightSet started size) sheet
   pub within : r.kind ≡ dilation_kind → SheetWithin r.width r.height (RightSet started size) sheet
   pub whole : n ≡ due r → SheetMeans r.width r.height (RightSet started size) sheet
@@ -32,9 +32,9 @@ pub record CutRun {r : Record} {levels : List ℕ} (started : Started r levels) 
       → get_or (after (after (at_start r levels) series) more).2 place 0 ≤ get_or (after (at_start r levels) series).2 place 0
   -- a look at every size in its range, with a sheet of the right length
   pub shown : (size : ℕ) → size ≤ size_limit r → (out : List ℕ) → length out ≡ r.height * row_bytes r.width
-      → (number : ℕ) (is-final : Bool) (sheet : List ℕ)
-      → ShowsProvisional (after (at_start r levels) series).0 (after (at_start r levels) series).2 size out number (is-final, sheet)
-      → Shown started (rows_worked r series) size number is-final sheet
+      → (number : ℕ) (is_final : Bool) (sheet : List ℕ)
+      → ShowsProvisional (after (at_start r levels) series).0 (after (at_start r levels) series).2 size out number (is_final, sheet)
+      → Shown started (rows_worked r series) size number is_final sheet
 
 abbrev pub EveryCut : Type 0
 EveryCut = (r : Record) (levels : List ℕ) (started : Started r levels) (series : List Slice) → IsSeries (at_start r levels) series
@@ -43,5 +43,5 @@ EveryCut = (r : Record) (levels : List ℕ) (started : Started r levels) (series
 -- With all rows done a look is the ordinary threshold: whatever is lent, it answers the threshold's number and sheet.
 abbrev pub FinalIsOrdinary : Type 0
 FinalIsOrdinary =
-    (r : Record) → is_done r ≡ true → (levels : List ℕ) (size : ℕ) (out : List ℕ) (number : ℕ) (is-final : Bool) (sheet : List ℕ) →
-    ShowsProvisional r levels size out number (is-final, sheet) → Thresholds r levels size out number sheet
+    (r : Record) → is_done r ≡ true → (levels : List ℕ) (size : ℕ) (out : List ℕ) (number : ℕ) (is_final : Bool) (sheet : List ℕ) →
+    ShowsProvisional r levels size out number (is_final, sheet) → Thresholds r levels size out number sheet

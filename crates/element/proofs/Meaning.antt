@@ -11,20 +11,20 @@ use lib.ListN.{length, get_or}
 use borrow.Author.Tests.{ltb-true, leb-true}
 use Rattle.basics.specs.Tables.{table, raster}
 use Rattle.basics.proofs.BoundLaws.{both}
-use Rattle.basics.proofs.TableLaws.{get_d_table, get_d_raster, raster_is}
+use Rattle.basics.proofs.TableLaws.{get_or-table, get_or-raster, raster_is}
 use Rattle.grid.specs.Sets.{reflect, ◌≈◌}
 use Rattle.grid.specs.Figures.{element, reach}
 use Rattle.grid.proofs.FigureLaws.{element_same, element_larger, element_smaller, element_reflect}
 use Rattle.element.specs.Elements.{byte_at, element_set, is_side}
-use Rattle.element.specs.Cells.{cell_at, is_cell_set, seven_by_seven, is_held, centred_cell, centred, turned, flat, unflat}
+use Rattle.element.specs.Cells.{cell_at, set_of_cells, seven_by_seven, is_held, centred_cell, centred, turned, flat, unflat}
 use Rattle.element.specs.Reflect.{reflected_bytes}
 use Rattle.element.proofs.ElementLaws.{side_bounds, held_in, cell_in, cell_row_out, cell_column_out}
 
 -- a cell of a seven by seven
 pub seven_at : (cell : ℕ → ℕ → ℕ) (row col : ℕ) → row < 7 → col < 7 → cell_at (seven_by_seven cell) row col ≡ cell row col
 unfolding seven_by_seven
-seven_at cell row col a b = ap (λ l. get_or l col 0) (get_d_table (λ r. table 7 (λ c. cell r c)) 7 row [] a)
-    ∙ get_d_table (cell row) 7 col 0 b
+seven_at cell row col a b = ap (λ l. get_or l col 0) (get_or-table (λ r. table 7 (λ c. cell r c)) 7 row [] a)
+    ∙ get_or-table (cell row) 7 col 0 b
 
 -- where a place is held
 pub held_bounds : (side p : ℕ) → is_held side p ≡ true → (3 - reach side ≤ p) × (p < 3 - reach side + side)
@@ -34,7 +34,7 @@ held_bounds side p e =
     (leb-true (3 - reach side) p h.0, ltb-true p (3 - reach side + side) h.1)
 
 -- THE CELLS MEAN WHAT THE BYTES MEAN
-pub centred_means : (side : ℕ) (bytes : List ℕ) → is_side side ≡ true → is_cell_set (centred side bytes) ≈ element_set side bytes
+pub centred_means : (side : ℕ) (bytes : List ℕ) → is_side side ≡ true → set_of_cells (centred side bytes) ≈ element_set side bytes
 unfolding centred
 centred_means side bytes e =
     let b = side_bounds side e in (
@@ -73,22 +73,22 @@ centred_means side bytes e =
         ∙ v
 
 -- turned cells mean the reflected set
-pub turned_means : (cells : List (List ℕ)) → is_cell_set (turned cells) ≈ reflect (is_cell_set cells)
+pub turned_means : (cells : List (List ℕ)) → set_of_cells (turned cells) ≈ reflect (set_of_cells cells)
 unfolding turned
 turned_means cells = element_reflect 7 refl (cell_at cells) (cell_at (seven_by_seven (λ row col. cell_at cells (6 - row) (6 - col))))
     (λ row col a c. seven_at (λ row col. cell_at cells (6 - row) (6 - col)) row col a c)
 
 -- the flat row means what the cells mean, and gives them back
-pub flat_means : (cells : List (List ℕ)) → element_set 7 (flat cells) ≈ is_cell_set cells
+pub flat_means : (cells : List (List ℕ)) → element_set 7 (flat cells) ≈ set_of_cells cells
 unfolding flat
 flat_means cells = (
   element_same 7 (byte_at 7 (raster 7 7 (cell_at cells))) (cell_at cells)
-      (λ row col a c v. sym (get_d_raster 7 7 (cell_at cells) row col 0 a c) ∙ v),
+      (λ row col a c v. sym (get_or-raster 7 7 (cell_at cells) row col 0 a c) ∙ v),
   element_same 7 (cell_at cells) (byte_at 7 (raster 7 7 (cell_at cells)))
-      (λ row col a c v. get_d_raster 7 7 (cell_at cells) row col 0 a c ∙ v),
+      (λ row col a c v. get_or-raster 7 7 (cell_at cells) row col 0 a c ∙ v),
 )
 
-pub unflat_means : (cells : List ℕ) → is_cell_set (unflat cells) ≈ element_set 7 cells
+pub unflat_means : (cells : List ℕ) → set_of_cells (unflat cells) ≈ element_set 7 cells
 unfolding unflat
 unflat_means cells = (
   element_same 7 (cell_at (seven_by_seven (byte_at 7 cells))) (byte_at 7 cells)
@@ -102,7 +102,7 @@ reflected_at : (side : ℕ) (bytes : List ℕ) (row col : ℕ) → row < side �
     → byte_at side (reflected_bytes side bytes) row col ≡ byte_at side bytes (side - 1 - row) (side - 1 - col)
 unfolding reflected_bytes
 reflected_at side bytes row col a c =
-    get_d_raster side side (λ row col. byte_at side bytes (side - 1 - row) (side - 1 - col)) row col 0 a c
+    get_or-raster side side (λ row col. byte_at side bytes (side - 1 - row) (side - 1 - col)) row col 0 a c
 
 pub reflected_means : (side : ℕ) (bytes : List ℕ) → is_side side ≡ true
     → element_set side (reflected_bytes side bytes) ≈ reflect (element_set side bytes)
@@ -123,6 +123,6 @@ reflected_twice side bytes l =
 pub drawn_means : (side : ℕ) (cell : ℕ → ℕ → ℕ) → element_set side (raster side side cell) ≈ element side cell
 drawn_means side cell = (
   element_same side (byte_at side (raster side side cell)) cell
-      (λ row col a b v. sym (get_d_raster side side cell row col 0 a b) ∙ v),
-  element_same side cell (byte_at side (raster side side cell)) (λ row col a b v. get_d_raster side side cell row col 0 a b ∙ v),
+      (λ row col a b v. sym (get_or-raster side side cell row col 0 a b) ∙ v),
+  element_same side cell (byte_at side (raster side side cell)) (λ row col a b v. get_or-raster side side cell row col 0 a b ∙ v),
 )

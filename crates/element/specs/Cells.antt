@@ -9,8 +9,8 @@ abbrev pub cell_at : List (List ℕ) → ℕ → ℕ → ℕ
 cell_at cells row col = get_or (get_or cells row []) col 0
 
 -- the set that the cells mean
-abbrev pub is_cell_set : List (List ℕ) → PointSet
-is_cell_set cells = element 7 (cell_at cells)
+abbrev pub set_of_cells : List (List ℕ) → PointSet
+set_of_cells cells = element 7 (cell_at cells)
 
 unfoldable pub seven_by_seven : (ℕ → ℕ → ℕ) → List (List ℕ)
 seven_by_seven cell = table 7 (λ row. table 7 (λ col. cell row col))

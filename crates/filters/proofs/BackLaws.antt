@@ -13,7 +13,7 @@ use borrow.Author.Tests.{le-ltb}
 use Rattle.basics.proofs.Arithmetic.{entry_below}
 use Rattle.sheet.proofs.FrameLaws.{side_fits}
 use Rattle.basics.specs.Limits.{longest_side}
-use Rattle.basics.proofs.TableLaws.{length-table, get_d_table}
+use Rattle.basics.proofs.TableLaws.{length-table, get_or-table}
 use Rattle.grid.specs.Points.{Point}
 use Rattle.grid.specs.Sets.{PointSet}
 use Rattle.grid.specs.Figures.{reach}
@@ -84,7 +84,7 @@ module _ (r : Record) (first : List ℕ) (n : ℕ) (S : PointSet) (size : length
         let f : ℕ → ℕ = λ k. cond (is_held_at r n (get_or first k 0)) (on_of (back r)) (off_of (back r)) in
         let l = entry_below (area_width r) (area_height r) row col (omega arith) (omega arith) in
         ap (λ w. get_or (back_start r first n) (row * w + col) 0) bw
-        ∙ get_d_table f (length first) (row * area_width r + col) 0 (omega arith)
+        ∙ get_or-table f (length first) (row * area_width r + col) 0 (omega arith)
         ∙ ap (λ v. cond (is_held_at r n v) (on_of (back r)) (off_of (back r)))
         (sym (look_inside (area_of r) first row col (omega arith) (omega arith)))
         ∙ ap (λ u. cond u (on_of (back r)) (off_of (back r))) e

@@ -83,13 +83,13 @@ pub start_is : (r other : Record) → foreign r ≡ false → other ≡ back r �
     → low ≡ low_of r n → high ≡ high_of r n → on ≡ on_of other → off ≡ off_of other → (first : List ℕ) {marked : List ℕ}
     → marked ≡ table (length first) (λ k. chosen low high on off (get_or first k 0)) → marked ≡ back_start r first n
 unfolding back_start
-start_is r other taken is n small {low} {high} {on} {off} is-low is-high is-on is-off first e =
-    let p : on ≡ on_of (back r) = is-on ∙ ap on_of is in
-    let q : off ≡ off_of (back r) = is-off ∙ ap off_of is in
+start_is r other taken is n small {low} {high} {on} {off} is_low is_high is_on is_off first e =
+    let p : on ≡ on_of (back r) = is_on ∙ ap on_of is in
+    let q : off ≡ off_of (back r) = is_off ∙ ap off_of is in
     e ∙ table_same (λ k. chosen low high on off (get_or first k 0))
     (λ k. cond (is_held_at r n (get_or first k 0)) (on_of (back r)) (off_of (back r))) (length first)
     (λ k _. chosen_held low high (get_or first k 0) (is_held_at r n (get_or first k 0))
-    (ap₂ (λ x y. held_between x y (get_or first k 0)) is-low is-high ∙ held_level (sound r taken) n small (get_or first k 0)) on off
+    (ap₂ (λ x y. held_between x y (get_or first k 0)) is_low is_high ∙ held_level (sound r taken) n small (get_or first k 0)) on off
     ∙ ap₂ (λ x y. cond (is_held_at r n (get_or first k 0)) x y) p q)
 
 -- and it may be finished

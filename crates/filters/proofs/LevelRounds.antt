@@ -10,7 +10,7 @@ use mathlib.Core.List.{List}
 use lib.IntN.{pos}
 use lib.ListN.{length, get_or, replicate, length-replicate, get_or-replicate}
 use Rattle.basics.specs.Limits.{largest_size}
-use Rattle.basics.proofs.TableLaws.{get_d_raster}
+use Rattle.basics.proofs.TableLaws.{get_or-raster}
 use Rattle.basics.proofs.Arithmetic.{entry_below}
 use Rattle.grid.specs.Points.{Point, at}
 use Rattle.grid.specs.Sets.{PointSet}
@@ -35,7 +35,7 @@ round : (r : Record) (n : ℕ) (F : PointSet) (second : List ℕ)
     → (out : List ℕ) → LevelsMean r.width r.height P out → LevelsMean r.width r.height Q (stored r second n out)
 unfolding stored
 round r n F second holds P Q held passed out mean row col a b =
-    subst (Q (at (pos row) (pos col))) (sym (get_d_raster r.width r.height
+    subst (Q (at (pos row) (pos col))) (sym (get_or-raster r.width r.height
     (λ row col. cond (is_found r second n row col) (n + 1) (get_or out (row * r.width + col) 0)) row col 0 a b))
     (go (is_found r second n row col) refl)
   where

@@ -9,7 +9,7 @@ use Rattle.basics.specs.Refusals.{Refusal, first, Answers}
 use Rattle.basics.proofs.RefusalLaws.{answers_unique}
 use Rattle.grid.specs.Points.{Point, at}
 use Rattle.grid.specs.Sets.{PointSet, ◌≈◌}
-use Rattle.grid.specs.Starred.{openingLevels, closingLevels}
+use Rattle.grid.specs.Starred.{opening_levels, closing_levels}
 use Rattle.grid.proofs.LevelLaws.{last_unique, first_unique}
 use Rattle.grid.proofs.SameSets.{itself, opened_same, closed_same, answer_same}
 use Rattle.sheet.specs.SamePixels.{SamePixels}
@@ -28,8 +28,8 @@ ignores : (input : Input) {lent : Buffers} (refusals : List ℕ → List Refusal
     → Right other out)
     → ((sheet x y : List ℕ) → Right sheet x → Right sheet y → x ≡ y)
     → IgnoresPadding input (λ sheet. Answers (refusals sheet) lent (λ after. Cleared lent after × Right sheet after.out))
-ignores input {lent} refusals {Right} alike carried one-thing one other e same =
-    (carry, λ m n x y p q. answers_unique (lent_one (Right other) (one-thing other) lent) m n x y (carry m x p) q)
+ignores input {lent} refusals {Right} alike carried one_thing one other e same =
+    (carry, λ m n x y p q. answers_unique (lent_one (Right other) (one_thing other) lent) m n x y (carry m x p) q)
   where
     carry : (number : ℕ) (after : Buffers)
         → Answers (refusals one) lent (λ after. Cleared lent after × Right one after.out) number after
@@ -63,10 +63,10 @@ padding_changes_nothing input bytes lent = record {
       (λ one other same. sheet_carried (closed_same (sets one other same) element size))
       (λ sheet. sheet_one input.width input.height _);
   opening_levels = ignores input (λ sheet. opening_refusals input sheet bytes lent) (λ one other e. rw e)
-      (λ one other same. levels_carried (answer_same (sets one other same) element openingLevels))
+      (λ one other same. levels_carried (answer_same (sets one other same) element opening_levels))
       (λ sheet. levels_one input.width input.height _ (λ p m n. last_unique));
   closing_levels = λ cap. ignores input (λ sheet. closing_refusals input sheet bytes cap lent) (λ one other e. rw e)
-      (λ one other same. levels_carried (answer_same (sets one other same) element (closingLevels cap)))
+      (λ one other same. levels_carried (answer_same (sets one other same) element (closing_levels cap)))
       (λ sheet. levels_one input.width input.height _ (λ p m n. first_unique));
 }
   where

@@ -13,9 +13,9 @@ use Rattle.basics.specs.Bounds.{any_above}
 use Rattle.basics.specs.Limits.{largest_size, highest_cap}
 use Rattle.basics.specs.Refusals.{Refusal, first, Answers}
 use Rattle.basics.specs.Tables.{table, raster}
-use Rattle.basics.proofs.TableLaws.{length-raster, get_d_raster}
+use Rattle.basics.proofs.TableLaws.{length-raster, get_or-raster}
 use Rattle.grid.specs.Points.{Point, at}
-use Rattle.grid.specs.Starred.{drawn, Question, erosionLevels, openingLevels, dilationLevels, closingLevels, erodedBy, openedBy}
+use Rattle.grid.specs.Starred.{drawn, Question, erosion_levels, opening_levels, dilation_levels, closing_levels, eroded_by, opened_by}
 use Rattle.grid.specs.Starred.{cropped_levels, IsAnswer, Case, shape_of, AllHold, starred_cases as cases, figure_of}
 use Rattle.grid.proofs.LevelLaws.{last_unique, first_unique}
 use Rattle.grid.proofs.SameSets.{answer_same}
@@ -64,13 +64,13 @@ module _ (c : Case) where
   Binary = (row : ℕ) → row < c.height → (col : ℕ) → col < c.width → drawn c.sheet row col ≤ 1
 
   NotRefused : Question → Type 0
-  NotRefused openingLevels = opening_number (frame_size (input_of c)) (frame_size (input_of c)) (length (levels_of c)) ≡ 0
-  NotRefused (closingLevels R) =
+  NotRefused opening_levels = opening_number (frame_size (input_of c)) (frame_size (input_of c)) (length (levels_of c)) ≡ 0
+  NotRefused (closing_levels R) =
       closing_number R (closing_size (input_of c) R) (closing_size (input_of c) R) (length (levels_of c)) ≡ 0
-  NotRefused (openedBy n) = open_number n (frame_size (input_of c)) (frame_size (input_of c)) (length (picture_of c)) ≡ 0
-  NotRefused erosionLevels = Unit {0}
-  NotRefused (dilationLevels R) = Unit {0}
-  NotRefused (erodedBy n) = Unit {0}
+  NotRefused (opened_by n) = open_number n (frame_size (input_of c)) (frame_size (input_of c)) (length (picture_of c)) ≡ 0
+  NotRefused erosion_levels = Unit {0}
+  NotRefused (dilation_levels R) = Unit {0}
+  NotRefused (eroded_by n) = Unit {0}
   NotRefused (cropped_levels width height R) = Unit {0}
 
   binary_dec : Dec Binary
@@ -80,12 +80,12 @@ module _ (c : Case) where
 
   taken_dec : (q : Question) → Dec (NotRefused q)
   unfolding NotRefused
-  taken_dec openingLevels = ℕ_discrete _ 0
-  taken_dec (closingLevels R) = ℕ_discrete _ 0
-  taken_dec (openedBy n) = ℕ_discrete _ 0
-  taken_dec erosionLevels = yes tt
-  taken_dec (dilationLevels R) = yes tt
-  taken_dec (erodedBy n) = yes tt
+  taken_dec opening_levels = ℕ_discrete _ 0
+  taken_dec (closing_levels R) = ℕ_discrete _ 0
+  taken_dec (opened_by n) = ℕ_discrete _ 0
+  taken_dec erosion_levels = yes tt
+  taken_dec (dilation_levels R) = yes tt
+  taken_dec (eroded_by n) = yes tt
   taken_dec (cropped_levels width height R) = yes tt
 
 AllTaken : List Case → Type 0
@@ -121,7 +121,7 @@ module _ (c : Case) (binary : Binary c) where
       → AreLevels c.width c.height IsLevel (levels_of c)
   are_levels IsLevel h = record {
     levels = λ row col a b. subst (IsLevel (at (pos row) (pos col)))
-        (sym (get_d_raster c.width c.height (drawn c.expected) row col 0 a b)) (h row col a b);
+        (sym (get_or-raster c.width c.height (drawn c.expected) row col 0 a b)) (h row col a b);
     size = length-raster c.width c.height (drawn c.expected);
   }
 
@@ -129,19 +129,19 @@ module _ (c : Case) (binary : Binary c) where
       → ((row : ℕ) → row < c.height → (col : ℕ) → col < c.width
       → IsAnswer q (figure_of c) (shape_of c) (at (pos row) (pos col)) (drawn c.expected row col)) → FilterGives q c
   unfolding NotRefused open_number closing_number opening_number
-  given openingLevels t h =
+  given opening_levels t h =
       gives_by_lengths (opening_refusals (input_of c) (sheet_of c) (bytes_of c)) (opening_number c) (λ lent. refl)
-      _ (levels_one c.width c.height _ (λ p m n. last_unique)) _ _ t (are_levels _ (same_answer openingLevels h))
-  given (closingLevels R) t h =
+      _ (levels_one c.width c.height _ (λ p m n. last_unique)) _ _ t (are_levels _ (same_answer opening_levels h))
+  given (closing_levels R) t h =
       gives_by_lengths (closing_refusals (input_of c) (sheet_of c) (bytes_of c) R) (closing_number c R) (λ lent. refl)
-      _ (levels_one c.width c.height _ (λ p m n. first_unique)) _ _ t (are_levels _ (same_answer (closingLevels R) h))
-  given (openedBy n) t h =
+      _ (levels_one c.width c.height _ (λ p m n. first_unique)) _ _ t (are_levels _ (same_answer (closing_levels R) h))
+  given (opened_by n) t h =
       gives_by_lengths (open_refusals (input_of c) (sheet_of c) (bytes_of c) n) (open_number c n) (λ lent. refl)
       _ (sheet_one c.width c.height _) _ _ t
-      (pixels_sheet c.width c.height _ (drawn c.expected) (same_answer (openedBy n) h))
-  given erosionLevels t h = tt
-  given (dilationLevels R) t h = tt
-  given (erodedBy n) t h = tt
+      (pixels_sheet c.width c.height _ (drawn c.expected) (same_answer (opened_by n) h))
+  given erosion_levels t h = tt
+  given (dilation_levels R) t h = tt
+  given (eroded_by n) t h = tt
   given (cropped_levels width height R) t h = tt
 
 -- the whole table

@@ -1,7 +1,7 @@
 -- The starred cases of docs/RULES.md once more, through the contracts of opening and closing: with buffers that fit, the one
 -- outcome that a contract allows is 0 with the table's answer.
 use Rattle.std.specs.Prelude.{ℕ, ◌≡◌, List, [], ◌∷◌, length, replicate}
-use Rattle.grid.specs.Starred.{Question, erosionLevels, openingLevels, dilationLevels, closingLevels, erodedBy, openedBy, Case}
+use Rattle.grid.specs.Starred.{Question, erosion_levels, opening_levels, dilation_levels, closing_levels, eroded_by, opened_by, Case}
 use Rattle.grid.specs.Starred.{cropped_levels, AllHold, starred_cases as cases, PairReflects, ClippingMisses}
 use Rattle.run.specs.StarredRuns.{sheet_of, bytes_of, levels_of, picture_of, RunsGive, AfterOneRow}
 use Rattle.filters.specs.declared.Input.{Input}
@@ -30,13 +30,13 @@ input_of c = record { width = c.width; height = c.height; side = 3 }
 
 -- so for the opening and closing questions of the table; the others are runs' (StarredRuns of run)
 abbrev pub FilterGives : Question → Case → Type 0
-FilterGives openingLevels c = Gives (OpeningLevels (input_of c) (sheet_of c) (bytes_of c)) (frame_size (input_of c)) (levels_of c)
-FilterGives (closingLevels R) c =
+FilterGives opening_levels c = Gives (OpeningLevels (input_of c) (sheet_of c) (bytes_of c)) (frame_size (input_of c)) (levels_of c)
+FilterGives (closing_levels R) c =
     Gives (ClosingLevels (input_of c) (sheet_of c) (bytes_of c) R) (closing_size (input_of c) R) (levels_of c)
-FilterGives (openedBy n) c = Gives (Opens (input_of c) (sheet_of c) (bytes_of c) n) (frame_size (input_of c)) (picture_of c)
-FilterGives erosionLevels c = Unit {0}
-FilterGives (dilationLevels R) c = Unit {0}
-FilterGives (erodedBy n) c = Unit {0}
+FilterGives (opened_by n) c = Gives (Opens (input_of c) (sheet_of c) (bytes_of c) n) (frame_size (input_of c)) (picture_of c)
+FilterGives erosion_levels c = Unit {0}
+FilterGives (dilation_levels R) c = Unit {0}
+FilterGives (eroded_by n) c = Unit {0}
 FilterGives (cropped_levels width height R) c = Unit {0}
 
 abbrev pub FiltersGive : List Case → Type 0

@@ -6,7 +6,7 @@ use Rattle.grid.specs.Points.{Point}
 use Rattle.grid.specs.Sets.{PointSet, fold, eroded, dilated, opened, closed, ◌⊆◌, ◌≈◌}
 use Rattle.grid.specs.Levels.{IsLast, IsFirst, IsErosionLevelUpTo}
 use Rattle.grid.specs.Crops.{uncropped}
-use Rattle.grid.specs.Starred.{Question, erosionLevels, openingLevels, dilationLevels, closingLevels, erodedBy, openedBy}
+use Rattle.grid.specs.Starred.{Question, erosion_levels, opening_levels, dilation_levels, closing_levels, eroded_by, opened_by}
 use Rattle.grid.specs.Starred.{cropped_levels, IsPixel, IsAnswer}
 use Rattle.grid.proofs.SetLaws.{dilate_parts, erode_parts}
 
@@ -74,10 +74,10 @@ up_to_same {R = R} same alike x (inr (e, h)) = inr (e, (eroded_same same alike R
 -- EVERY ANSWER
 pub answer_same : {A B K L : PointSet} → A ≈ B → K ≈ L → (q : Question) (x : Point) (v : ℕ) → IsAnswer q A K x v
     → IsAnswer q B L x v
-answer_same same alike erosionLevels x v = last_same (λ n. let e = eroded_same same alike n in (e.0 x, e.1 x))
-answer_same same alike openingLevels x v = last_same (λ n. let e = opened_same same alike n in (e.0 x, e.1 x))
-answer_same same alike (dilationLevels R) x v = first_same (λ n. let e = dilated_same same alike n in (e.0 x, e.1 x))
-answer_same same alike (closingLevels R) x v = first_same (λ n. let e = closed_same same alike n in (e.0 x, e.1 x))
-answer_same same alike (erodedBy n) x v = let e = eroded_same same alike n in pixel_same (e.0 x, e.1 x)
-answer_same same alike (openedBy n) x v = let e = opened_same same alike n in pixel_same (e.0 x, e.1 x)
+answer_same same alike erosion_levels x v = last_same (λ n. let e = eroded_same same alike n in (e.0 x, e.1 x))
+answer_same same alike opening_levels x v = last_same (λ n. let e = opened_same same alike n in (e.0 x, e.1 x))
+answer_same same alike (dilation_levels R) x v = first_same (λ n. let e = dilated_same same alike n in (e.0 x, e.1 x))
+answer_same same alike (closing_levels R) x v = first_same (λ n. let e = closed_same same alike n in (e.0 x, e.1 x))
+answer_same same alike (eroded_by n) x v = let e = eroded_same same alike n in pixel_same (e.0 x, e.1 x)
+answer_same same alike (opened_by n) x v = let e = opened_same same alike n in pixel_same (e.0 x, e.1 x)
 answer_same same alike (cropped_levels width height R) x v = up_to_same (uncropped_same width height same) alike x

@@ -13,8 +13,8 @@ use Rattle.grid.specs.Sets.{PointSet, eroded, dilated, opened, closed}
 use Rattle.grid.specs.Levels.{IsLast, IsFirst, more_than_cap, IsErosionLevelUpTo}
 use Rattle.grid.specs.Figures.{reach}
 use Rattle.grid.specs.Crops.{uncropped}
-use Rattle.grid.specs.Starred.{drawn, Question, erosionLevels, openingLevels, dilationLevels, closingLevels, erodedBy}
-use Rattle.grid.specs.Starred.{openedBy, IsPixel, IsAnswer, Case, figure_of, shape_of, AllHold, starred_cases, hook, clipped}
+use Rattle.grid.specs.Starred.{drawn, Question, erosion_levels, opening_levels, dilation_levels, closing_levels, eroded_by}
+use Rattle.grid.specs.Starred.{opened_by, IsPixel, IsAnswer, Case, figure_of, shape_of, AllHold, starred_cases, hook, clipped}
 use Rattle.grid.specs.Starred.{cropped_levels, pair, pair_reflected, PairReflects, ClippingMisses}
 use Rattle.grid.proofs.SetLaws.{eroded_shrinks, dilated_grows, opened_shrinks, closed_grows}
 use Rattle.grid.proofs.FigureLaws.{element_reflect}
@@ -95,12 +95,12 @@ module _ (R : ℕ) (A K : PointSet) (x : Point) (v : ℕ) where
 
 -- what is tested at a point, and that it shows the answer
 Tested : Question → PointSet → PointSet → Point → ℕ → Type 0
-Tested erosionLevels A K x v = LastAt (λ n. eroded A K n x) v
-Tested openingLevels A K x v = LastAt (λ n. opened A K n x) v
-Tested (dilationLevels R) A K x v = FirstAt R (λ n. dilated A K n x) v
-Tested (closingLevels R) A K x v = FirstAt R (λ n. closed A K n x) v
-Tested (erodedBy n) A K x v = IsPixel (eroded A K n x) v
-Tested (openedBy n) A K x v = IsPixel (opened A K n x) v
+Tested erosion_levels A K x v = LastAt (λ n. eroded A K n x) v
+Tested opening_levels A K x v = LastAt (λ n. opened A K n x) v
+Tested (dilation_levels R) A K x v = FirstAt R (λ n. dilated A K n x) v
+Tested (closing_levels R) A K x v = FirstAt R (λ n. closed A K n x) v
+Tested (eroded_by n) A K x v = IsPixel (eroded A K n x) v
+Tested (opened_by n) A K x v = IsPixel (opened A K n x) v
 Tested (cropped_levels width height R) A K x v = UpToAt R (uncropped width height A) K x v
 
 unfoldable pub pixel_dec : (P : Type 0) → Dec P → (v : ℕ) → Dec (IsPixel P v)
@@ -118,22 +118,22 @@ pixel_dec P (no n) v = same_dec (λ e. inr (e, n)) none (ℕ_discrete v 0)
 module _ (A K : PointSet) (x : Point) (v : ℕ) where
   answered : (q : Question) → K origin → Tested q A K x v → IsAnswer q A K x v
   unfolding Tested
-  answered erosionLevels o t = last_at (λ n. eroded A K n x) (λ i j l. eroded_shrinks A K o i j l x) v t
-  answered openingLevels o t = last_at (λ n. opened A K n x) (λ i j l. opened_shrinks A K i j l x) v t
-  answered (dilationLevels R) o t = first_at (λ n. dilated A K n x) (λ i j l. dilated_grows A K o i j l x) R v t
-  answered (closingLevels R) o t = first_at (λ n. closed A K n x) (λ i j l. closed_grows A K i j l x) R v t
-  answered (erodedBy n) o t = t
-  answered (openedBy n) o t = t
+  answered erosion_levels o t = last_at (λ n. eroded A K n x) (λ i j l. eroded_shrinks A K o i j l x) v t
+  answered opening_levels o t = last_at (λ n. opened A K n x) (λ i j l. opened_shrinks A K i j l x) v t
+  answered (dilation_levels R) o t = first_at (λ n. dilated A K n x) (λ i j l. dilated_grows A K o i j l x) R v t
+  answered (closing_levels R) o t = first_at (λ n. closed A K n x) (λ i j l. closed_grows A K i j l x) R v t
+  answered (eroded_by n) o t = t
+  answered (opened_by n) o t = t
   answered (cropped_levels width height R) o t = up_to_at R (uncropped width height A) K x v o t
 
   tested_dec : (q : Question) → Decided A → Searched K → Dec (Tested q A K x v)
   unfolding Tested
-  tested_dec erosionLevels d s = last_at_dec (λ n. eroded A K n x) (λ n. eroded_decided d s n x) v
-  tested_dec openingLevels d s = last_at_dec (λ n. opened A K n x) (λ n. opened_decided d s n x) v
-  tested_dec (dilationLevels R) d s = first_at_dec (λ n. dilated A K n x) (λ n. dilated_decided d s n x) R v
-  tested_dec (closingLevels R) d s = first_at_dec (λ n. closed A K n x) (λ n. closed_decided d s n x) R v
-  tested_dec (erodedBy n) d s = pixel_dec (eroded A K n x) (eroded_decided d s n x) v
-  tested_dec (openedBy n) d s = pixel_dec (opened A K n x) (opened_decided d s n x) v
+  tested_dec erosion_levels d s = last_at_dec (λ n. eroded A K n x) (λ n. eroded_decided d s n x) v
+  tested_dec opening_levels d s = last_at_dec (λ n. opened A K n x) (λ n. opened_decided d s n x) v
+  tested_dec (dilation_levels R) d s = first_at_dec (λ n. dilated A K n x) (λ n. dilated_decided d s n x) R v
+  tested_dec (closing_levels R) d s = first_at_dec (λ n. closed A K n x) (λ n. closed_decided d s n x) R v
+  tested_dec (eroded_by n) d s = pixel_dec (eroded A K n x) (eroded_decided d s n x) v
+  tested_dec (opened_by n) d s = pixel_dec (opened A K n x) (opened_decided d s n x) v
   tested_dec (cropped_levels width height R) d s =
       up_to_at_dec R (uncropped width height A) K x v (uncropped_decided width height d) s
 

@@ -16,9 +16,9 @@ drawn drawing row col = get_or (get_or drawing row []) col 0
 
 -- what is asked of a sheet and an element; the numbers are sizes and caps, of a cropped sheet its frame's sides and the cap
 pub data Question : Type 0 where
-  erosionLevels openingLevels : Question
-  dilationLevels closingLevels : ℕ → Question
-  erodedBy openedBy : ℕ → Question
+  erosion_levels opening_levels : Question
+  dilation_levels closing_levels : ℕ → Question
+  eroded_by opened_by : ℕ → Question
   cropped_levels : ℕ → ℕ → ℕ → Question
 
 -- a pixel is 1 where its point is held, and 0 where it is not
@@ -27,12 +27,12 @@ IsPixel held v = ((v ≡ 1) × held) ⊎ ((v ≡ 0) × ¬ held)
 
 -- v is the right answer at x
 abbrev pub IsAnswer : Question → PointSet → PointSet → Point → ℕ → Type 0
-IsAnswer erosionLevels A K x v = IsErosionLevel A K x v
-IsAnswer openingLevels A K x v = IsOpeningLevel A K x v
-IsAnswer (dilationLevels R) A K x v = IsDilationLevel R A K x v
-IsAnswer (closingLevels R) A K x v = IsClosingLevel R A K x v
-IsAnswer (erodedBy n) A K x v = IsPixel (eroded A K n x) v
-IsAnswer (openedBy n) A K x v = IsPixel (opened A K n x) v
+IsAnswer erosion_levels A K x v = IsErosionLevel A K x v
+IsAnswer opening_levels A K x v = IsOpeningLevel A K x v
+IsAnswer (dilation_levels R) A K x v = IsDilationLevel R A K x v
+IsAnswer (closing_levels R) A K x v = IsClosingLevel R A K x v
+IsAnswer (eroded_by n) A K x v = IsPixel (eroded A K n x) v
+IsAnswer (opened_by n) A K x v = IsPixel (opened A K n x) v
 IsAnswer (cropped_levels width height R) A K x v = IsErosionLevelUpTo R (uncropped width height A) K x v
 
 pub record Case : Type 0 where
@@ -111,43 +111,43 @@ case width height sheet shape question expected =
 
 -- case 2, of which docs/RULES.md also says what stands after one row
 abbrev pub full_row : Case
-full_row = case 5 1 (one_row (1 ∷ 1 ∷ 1 ∷ 1 ∷ 1 ∷ [])) pair erosionLevels (one_row (5 ∷ 4 ∷ 3 ∷ 2 ∷ 1 ∷ []))
+full_row = case 5 1 (one_row (1 ∷ 1 ∷ 1 ∷ 1 ∷ 1 ∷ [])) pair erosion_levels (one_row (5 ∷ 4 ∷ 3 ∷ 2 ∷ 1 ∷ []))
 
 abbrev pub starred_cases : List Case
 starred_cases =
     -- 1
-    case 3 3 full cross erosionLevels
+    case 3 3 full cross erosion_levels
     ((1 ∷ 1 ∷ 1 ∷ []) ∷
     (1 ∷ 2 ∷ 1 ∷ []) ∷
     (1 ∷ 1 ∷ 1 ∷ []) ∷ []) ∷
-    case 3 3 full cross (erodedBy 1)
+    case 3 3 full cross (eroded_by 1)
     ((0 ∷ 0 ∷ 0 ∷ []) ∷
     (0 ∷ 1 ∷ 0 ∷ []) ∷
     (0 ∷ 0 ∷ 0 ∷ []) ∷ []) ∷
-    case 3 3 full cross (erodedBy 2) empty ∷
+    case 3 3 full cross (eroded_by 2) empty ∷
     -- 2 and 3
     full_row ∷
-    case 5 1 (one_row (1 ∷ 1 ∷ 1 ∷ 1 ∷ 1 ∷ [])) pair_reflected erosionLevels (one_row (1 ∷ 2 ∷ 3 ∷ 4 ∷ 5 ∷ [])) ∷
+    case 5 1 (one_row (1 ∷ 1 ∷ 1 ∷ 1 ∷ 1 ∷ [])) pair_reflected erosion_levels (one_row (1 ∷ 2 ∷ 3 ∷ 4 ∷ 5 ∷ [])) ∷
     -- 4
-    case 5 1 (one_row (0 ∷ 0 ∷ 1 ∷ 0 ∷ 0 ∷ [])) pair (dilationLevels 2) (one_row (0 ∷ 0 ∷ 1 ∷ 2 ∷ 3 ∷ [])) ∷
-    case 5 1 (one_row (0 ∷ 0 ∷ 1 ∷ 0 ∷ 0 ∷ [])) pair (dilationLevels 1) (one_row (0 ∷ 0 ∷ 1 ∷ 2 ∷ 0 ∷ [])) ∷
+    case 5 1 (one_row (0 ∷ 0 ∷ 1 ∷ 0 ∷ 0 ∷ [])) pair (dilation_levels 2) (one_row (0 ∷ 0 ∷ 1 ∷ 2 ∷ 3 ∷ [])) ∷
+    case 5 1 (one_row (0 ∷ 0 ∷ 1 ∷ 0 ∷ 0 ∷ [])) pair (dilation_levels 1) (one_row (0 ∷ 0 ∷ 1 ∷ 2 ∷ 0 ∷ [])) ∷
     -- 5
-    case 1 2 ((1 ∷ []) ∷ (0 ∷ []) ∷ []) hook (dilationLevels 2) ((1 ∷ []) ∷ (3 ∷ []) ∷ []) ∷
-    case 1 2 ((1 ∷ []) ∷ (0 ∷ []) ∷ []) hook (dilationLevels 1) ((1 ∷ []) ∷ (0 ∷ []) ∷ []) ∷
+    case 1 2 ((1 ∷ []) ∷ (0 ∷ []) ∷ []) hook (dilation_levels 2) ((1 ∷ []) ∷ (3 ∷ []) ∷ []) ∷
+    case 1 2 ((1 ∷ []) ∷ (0 ∷ []) ∷ []) hook (dilation_levels 1) ((1 ∷ []) ∷ (0 ∷ []) ∷ []) ∷
     -- 6
-    case 5 1 (one_row (1 ∷ 0 ∷ 1 ∷ 1 ∷ 1 ∷ [])) pair erosionLevels (one_row (1 ∷ 0 ∷ 3 ∷ 2 ∷ 1 ∷ [])) ∷
-    case 5 1 (one_row (1 ∷ 0 ∷ 1 ∷ 1 ∷ 1 ∷ [])) pair openingLevels (one_row (1 ∷ 0 ∷ 3 ∷ 3 ∷ 3 ∷ [])) ∷
-    case 5 1 (one_row (1 ∷ 0 ∷ 1 ∷ 1 ∷ 1 ∷ [])) pair (openedBy 1) (one_row (0 ∷ 0 ∷ 1 ∷ 1 ∷ 1 ∷ [])) ∷
+    case 5 1 (one_row (1 ∷ 0 ∷ 1 ∷ 1 ∷ 1 ∷ [])) pair erosion_levels (one_row (1 ∷ 0 ∷ 3 ∷ 2 ∷ 1 ∷ [])) ∷
+    case 5 1 (one_row (1 ∷ 0 ∷ 1 ∷ 1 ∷ 1 ∷ [])) pair opening_levels (one_row (1 ∷ 0 ∷ 3 ∷ 3 ∷ 3 ∷ [])) ∷
+    case 5 1 (one_row (1 ∷ 0 ∷ 1 ∷ 1 ∷ 1 ∷ [])) pair (opened_by 1) (one_row (0 ∷ 0 ∷ 1 ∷ 1 ∷ 1 ∷ [])) ∷
     -- 7
-    case 4 1 (one_row (1 ∷ 0 ∷ 0 ∷ 1 ∷ [])) pair (closingLevels 2) (one_row (1 ∷ 3 ∷ 3 ∷ 1 ∷ [])) ∷
-    case 4 1 (one_row (1 ∷ 0 ∷ 0 ∷ 1 ∷ [])) pair (closingLevels 1) (one_row (1 ∷ 0 ∷ 0 ∷ 1 ∷ [])) ∷
+    case 4 1 (one_row (1 ∷ 0 ∷ 0 ∷ 1 ∷ [])) pair (closing_levels 2) (one_row (1 ∷ 3 ∷ 3 ∷ 1 ∷ [])) ∷
+    case 4 1 (one_row (1 ∷ 0 ∷ 0 ∷ 1 ∷ [])) pair (closing_levels 1) (one_row (1 ∷ 0 ∷ 0 ∷ 1 ∷ [])) ∷
     -- 8
-    case 3 3 empty cross erosionLevels empty ∷
-    case 3 3 empty cross openingLevels empty ∷
-    case 3 3 empty cross (dilationLevels 1) empty ∷
-    case 3 3 empty cross (closingLevels 1) empty ∷
-    case 1 1 (one_row (1 ∷ [])) cross erosionLevels (one_row (1 ∷ [])) ∷
-    case 1 1 (one_row (1 ∷ [])) cross (dilationLevels 1) (one_row (1 ∷ [])) ∷
+    case 3 3 empty cross erosion_levels empty ∷
+    case 3 3 empty cross opening_levels empty ∷
+    case 3 3 empty cross (dilation_levels 1) empty ∷
+    case 3 3 empty cross (closing_levels 1) empty ∷
+    case 1 1 (one_row (1 ∷ [])) cross erosion_levels (one_row (1 ∷ [])) ∷
+    case 1 1 (one_row (1 ∷ [])) cross (dilation_levels 1) (one_row (1 ∷ [])) ∷
     -- a crop whose sheet is full, and one with its centre unset
     case 3 3 full cross (cropped_levels 3 3 2)
     ((65535 ∷ 65535 ∷ 65535 ∷ []) ∷

@@ -16,12 +16,12 @@ use Rattle.basics.proofs.RefusalLaws.{numbered, first_refused, first_accepted, r
 use Rattle.harness.specs.Boundary.{holds_no_record, words_refusal, answer_refusal, answered, at_latest}
 
 -- a library's answer carried over to a list of refusals that gives the same number
-module _ {A B : Type 0} {L M : List Refusal} {keptA : A} {keptB : B} {RightA : A → Type 0} {RightB : B → Type 0} {n : ℕ} {x : A}
-    (p : Answers L keptA RightA n x) (e : first M ≡ first L) where
-  pub carried_refusal : n ≢ 0 → (y : B) → (x ≡ keptA → y ≡ keptB) → Answers M keptB RightB n y
+module _ {A B : Type 0} {L M : List Refusal} {kept_a : A} {kept_b : B} {RightA : A → Type 0} {RightB : B → Type 0} {n : ℕ} {x : A}
+    (p : Answers L kept_a RightA n x) (e : first M ≡ first L) where
+  pub carried_refusal : n ≢ 0 → (y : B) → (x ≡ kept_a → y ≡ kept_b) → Answers M kept_b RightB n y
   carried_refusal z y k = record { refusal = p.refusal ∙ sym e; accepted = λ q. absurd (z q); refused = λ q. k (p.refused q) }
 
-  pub carried_answer : n ≡ 0 → (y : B) → (RightA x → RightB y) → Answers M keptB RightB 0 y
+  pub carried_answer : n ≡ 0 → (y : B) → (RightA x → RightB y) → Answers M kept_b RightB 0 y
   carried_answer z y k = accepts y (e ∙ sym p.refusal ∙ z) (k (p.accepted z))
 
 -- words that should be a record: 1 where they hold none, else what the library answers of the record

@@ -15,7 +15,7 @@ use Rattle.basics.specs.Refusals.{first}
 use Rattle.basics.specs.Tables.{table, raster}
 use Rattle.basics.proofs.Arithmetic.{entry_below}
 use Rattle.basics.proofs.RefusalLaws.{accepts, answers_unique}
-use Rattle.basics.proofs.TableLaws.{get_d_raster, raster_same}
+use Rattle.basics.proofs.TableLaws.{get_or-raster, raster_same}
 use Rattle.grid.specs.Points.{Point}
 use Rattle.grid.specs.Sets.{PointSet, dilated, ◌≈◌}
 use Rattle.grid.specs.Figures.{figure, element}
@@ -162,7 +162,7 @@ same_points =
     let k = drawn_means 3 (drawn pair) in
     by_sizes_same (sizes_of (drawn their_sizes)) (size_of row_of_seven seven_map) (s.1, s.0)
     (λ a (row, col, i, j, v, e). ap (sizes_of (drawn their_sizes)) e
-    ∙ sym (ap (size_of row_of_seven seven_map) e ∙ get_d_raster 7 1 (drawn their_sizes) row col 0 i j)) (k.1, k.0)
+    ∙ sym (ap (size_of row_of_seven seven_map) e ∙ get_or-raster 7 1 (drawn their_sizes) row col 0 i j)) (k.1, k.0)
 
 pub two_sizes_given : TwoSizesGiven
 two_sizes_given lent e f number after p =

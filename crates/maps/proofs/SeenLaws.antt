@@ -13,7 +13,7 @@ use borrow.Author.Tests.{le-ltb, eq-eqb}
 use Rattle.basics.specs.Bounds.{any_above}
 use Rattle.basics.proofs.Arithmetic.{entry_of, entry_below}
 use Rattle.basics.proofs.BoundLaws.{above_next, above_end, all_within, none_above}
-use Rattle.basics.proofs.TableLaws.{length-raster, get_d_raster, get_d_table}
+use Rattle.basics.proofs.TableLaws.{length-raster, get_or-raster, get_or-table}
 use Rattle.basics.specs.Tables.{raster}
 use Rattle.grid.specs.Points.{Point}
 use Rattle.sheet.specs.Sheets.{pixel}
@@ -35,14 +35,14 @@ module _ (input : Input) (sheet map : List ℕ) where
       → get_or (sizes_seen input sheet map) k 0
       ≡ cond (eqb (pixel input.width sheet (k / input.width) (k % input.width)) 1) (get_or map k 0) 0
   unfolding sizes_seen raster
-  seen_at k l = get_d_table (λ k. seen (k / input.width) (k % input.width)) (frame_size input) k 0 l
+  seen_at k l = get_or-table (λ k. seen (k / input.width) (k % input.width)) (frame_size input) k 0 l
       ∙ ap (λ j. cond (eqb (pixel input.width sheet (k / input.width) (k % input.width)) 1) (get_or map j 0) 0)
       (entry_of input.width k)
 
   seen_in : (row col : ℕ) → row < input.height → col < input.width
       → get_or (sizes_seen input sheet map) (row * input.width + col) 0 ≡ seen row col
   unfolding sizes_seen
-  seen_in row col a b = get_d_raster input.width input.height seen row col 0 a b
+  seen_in row col a b = get_or-raster input.width input.height seen row col 0 a b
 
   -- a size above the cap counts where the pixel is 1
   pub seen_above : (cap row col number : ℕ) → row < input.height → col < input.width → number ≡ pixel input.width sheet row col

@@ -105,17 +105,17 @@ module _ (file : List ℕ) (p : begins_p4 file ≡ true) where
   unfolding header
   without_width e = rw (p, e)
 
-  module _ (width : ℕ) (afterWidth : List ℕ) (e : field (drop 2 file) ≡ number width afterWidth) where
-    pub without_height : field afterWidth ≡ missing → header file ≡ broken
+  module _ (width : ℕ) (after_width : List ℕ) (e : field (drop 2 file) ≡ number width after_width) where
+    pub without_height : field after_width ≡ missing → header file ≡ broken
     unfolding header
     without_height f = rw (p, e, f)
 
-    module _ (height : ℕ) (afterHeight : List ℕ) (f : field afterWidth ≡ number height afterHeight) where
-      pub without_end : is_none (white_run afterHeight) ≡ true → header file ≡ broken
+    module _ (height : ℕ) (after_height : List ℕ) (f : field after_width ≡ number height after_height) where
+      pub without_end : is_none (white_run after_height) ≡ true → header file ≡ broken
       unfolding header
       without_end g = rw (p, e, f, g)
 
-      pub header_whole : is_none (white_run afterHeight) ≡ false → header file ≡ whole width height (drop 1 afterHeight)
+      pub header_whole : is_none (white_run after_height) ≡ false → header file ≡ whole width height (drop 1 after_height)
       unfolding header
       header_whole g = rw (p, e, f, g)
 
@@ -140,16 +140,16 @@ module _ (file : List ℕ) where
     header_22 : header file ≡ broken → HeaderRead file 22 0 0 0
     header_22 e = record { first_is = rw (p, e); accepted = λ z. absurd (omega arith) }
 
-    header_2 : (refusal width height at exactWidth exactHeight : ℕ) → at ≤ length file
-        → header file ≡ whole exactWidth exactHeight (drop at file)
-        → width ≡ min exactWidth amount_end → height ≡ min exactHeight amount_end → refusal ≡ first (frame_refusals width height)
+    header_2 : (refusal width height at exact_width exact_height : ℕ) → at ≤ length file
+        → header file ≡ whole exact_width exact_height (drop at file)
+        → width ≡ min exact_width amount_end → height ≡ min exact_height amount_end → refusal ≡ first (frame_refusals width height)
         → HeaderRead file refusal width height at
-    header_2 refusal width height at exactWidth exactHeight l e m n r = record {
-      first_is = r ∙ (rw (p, e, m, n, side_cut exactWidth, side_cut exactHeight));
+    header_2 refusal width height at exact_width exact_height l e m n r = record {
+      first_is = r ∙ (rw (p, e, m, n, side_cut exact_width, side_cut exact_height));
       accepted = λ z.
           let s = frame_sides width height (sym r ∙ z) in
-          let a : exactWidth ≡ width = omega arith in
-          let b : exactHeight ≡ height = omega arith in
+          let a : exact_width ≡ width = omega arith in
+          let b : exact_height ≡ height = omega arith in
           (l, e ∙ ap₂ (λ w h. whole w h (drop at file)) a b);
     }
 

@@ -53,10 +53,10 @@ module _ (width height : ℕ) (out : List ℕ) (fits : length (pbm_header width 
         (wrote_both (sides width height) (10 ∷ []) 0 out room p q)
 
 -- the size, from the counts of digits
-pub sizes : (width height widthCount heightCount : ℕ) (sheet : List ℕ) → widthCount ≡ length (digits width)
-    → heightCount ≡ length (digits height)
-    → 5 + widthCount + heightCount + length sheet ≡ 5 + length (digits width) + length (digits height) + length sheet
-sizes width height widthCount heightCount sheet a b = omega arith
+pub sizes : (width height width_count height_count : ℕ) (sheet : List ℕ) → width_count ≡ length (digits width)
+    → height_count ≡ length (digits height)
+    → 5 + width_count + height_count + length sheet ≡ 5 + length (digits width) + length (digits height) + length sheet
+sizes width height width_count height_count sheet a b = omega arith
 
 module _ (width height : ℕ) (sheet out : List ℕ) where
   -- NO SECOND OUTCOME

@@ -9,7 +9,7 @@ use lib.ListN.{get_or}
 use Rattle.grid.specs.Points.{at}
 use Rattle.grid.specs.Sets.{◌≈◌}
 use Rattle.grid.specs.Levels.{IsErosionLevel}
-use Rattle.grid.specs.Starred.{erosionLevels}
+use Rattle.grid.specs.Starred.{erosion_levels}
 use Rattle.grid.proofs.SameSets.{answer_same}
 use Rattle.element.specs.Elements.{element_set}
 use Rattle.sheet.specs.Sheets.{foreground}
@@ -59,6 +59,6 @@ printed_levels input width height raster small e good l =
       (λ row col a b. answer_same (cleared_same width height raster) (
         (λ x h. h),
         (λ x h. h),
-      ) erosionLevels (at (pos row) (pos col))
+      ) erosion_levels (at (pos row) (pos col))
           (get_or levels (row * width + col) 0) (levels_mean width height sheet s row col a b)),
     )

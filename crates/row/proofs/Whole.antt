@@ -193,24 +193,24 @@ module _ (area : Area) (upward : Bool) (row : ℕ) (in_area_lem : row < area.hei
         let w : ℕ = area.width in
         let at : ℕ = row * w + place upward w t in
         let p : place upward w t < w = place_below upward w t turn in
-        let in-points : row * w + w ≤ length points = A.room in
-        let in-own : w ≤ length own = A.wide in
+        let in_points : row * w + w ≤ length points = A.room in
+        let in_own : w ≤ length own = A.wide in
         let apart : (s : ℕ) → s < w → (s ≡ t → ⊥) → place upward w s ≡ place upward w t
         → ⊥ = λ s k h. place_apart upward w s t k turn h in
-        let own-else : (s : ℕ) → s < w → (s ≡ t → ⊥)
+        let own_else : (s : ℕ) → s < w → (s ≡ t → ⊥)
         → get_or (set own (place upward w t) level) (place upward w s) 0
         ≡ get_or own (place upward w s) 0 = λ s k h. get_or-set_other own (place upward w t) (place upward w s) level 0 (apart s k h) in
-        let points-else : (i : ℕ) → (i ≡ at → ⊥)
+        let points_else : (i : ℕ) → (i ≡ at → ⊥)
         → get_or (set points at level) i 0 ≡ get_or points i 0 = λ i h. get_or-set_other points at i level 0 h in
         let off : (s : ℕ) → s < w → (s ≡ t → ⊥) → row * w + place upward w s ≡ at
         → ⊥ = λ s k h q. apart s k h (omega arith) in
         record {
-          wide = rw length-set in-own;
-          room = rw length-set in-points;
+          wide = rw length-set in_own;
+          room = rw length-set in_points;
           done = λ s h k. ⊎_elim
               (λ (m : s < t).
               let no : s ≡ t → ⊥ = λ q. omega arith in
-              own-else s k no ∙ A.done s m k ∙ sym (points-else _ (off s k no)))
+              own_else s k no ∙ A.done s m k ∙ sym (points_else _ (off s k no)))
               (λ (m : t ≤ s).
               let q : s ≡ t = omega arith in
               rw q (get_or-set_same own (place upward w t) level 0 (omega arith)
@@ -219,11 +219,11 @@ module _ (area : Area) (upward : Bool) (row : ℕ) (in_area_lem : row < area.hei
           left = λ s h k.
               let no : s ≡ t → ⊥ = λ q. omega arith in
               rw (
-                points-else (row * w + place upward w s) (off s k no),
-                least_same area row points (set points at level) (λ i m. points-else i (λ q. omega arith))
-                    (λ i m. points-else i (λ q. omega arith)) (place upward w s) (first_other upward) 21 (other upward),
+                points_else (row * w + place upward w s) (off s k no),
+                least_same area row points (set points at level) (λ i m. points_else i (λ q. omega arith))
+                    (λ i m. points_else i (λ q. omega arith)) (place upward w s) (first_other upward) 21 (other upward),
               )
-              (own-else s k no ∙ A.left s (omega arith) k);
+              (own_else s k no ∙ A.left s (omega arith) k);
         }
 
     -- a turn of both

@@ -13,7 +13,7 @@ use lib.Dec.{leb, ltb}
 use lib.IntN.{pos}
 use lib.ListN.{get_or}
 use borrow.Author.Tests.{lt-ltb, ltb-true, leb-false}
-use Rattle.basics.proofs.TableLaws.{get_d_raster}
+use Rattle.basics.proofs.TableLaws.{get_or-raster}
 use Rattle.grid.specs.Points.{Point, at, neg}
 use Rattle.grid.specs.Sets.{PointSet, reflect, eroded, dilated, ◌≈◌}
 use Rattle.grid.specs.Levels.{IsErosionLevel, IsDilationLevel, IsErosionLevelUpTo}
@@ -65,7 +65,7 @@ collected_at : (r : Record) (levels : List ℕ) (row col : ℕ) → row < r.heig
     → get_or (collected r levels) (row * r.width + col) 0 ≡ collected_level r (frame_level r levels row col)
 unfolding collected
 collected_at r levels row col a b =
-    get_d_raster r.width r.height (λ row col. collected_level r (frame_level r levels row col)) row col 0 a b
+    get_or-raster r.width r.height (λ row col. collected_level r (frame_level r levels row col)) row col 0 a b
 
 small : (t : Bool) → cond t 1 0 ≤ 1
 small true = omega arith
@@ -309,9 +309,9 @@ module _ (width height : ℕ) (sheet : List ℕ) (side : ℕ) (bytes : List ℕ)
 -- what a start gives has the picture of its record, which is sound
 carried : {r r₀ : Record} {levels : List ℕ} (started : Started r levels) (sheet : List ℕ) → (r, levels) ≡ begun r₀ sheet
     → (Sound r₀ → Means (RightLevel started) (RightSet started) (begun r₀ sheet)) → PictureRight started
-carried {r} {r₀} started sheet q means-of =
+carried {r} {r₀} started sheet q means_of =
     let s = sound r₀ (subst (λ (t : Record × List ℕ). foreign t.0 ≡ false) q (is_start started).taken) in
-    let m = subst (Means (RightLevel started) (RightSet started)) (sym q) (means-of s) in
+    let m = subst (Means (RightLevel started) (RightSet started)) (sym q) (means_of s) in
     record { collecting = m.0; thresholding = m.1 }
 
 -- THE THEOREM

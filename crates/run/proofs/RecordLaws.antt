@@ -219,9 +219,9 @@ taken_parts r e =
     let w = is_side_out r.width in
     let h = is_side_out r.height in
     let element = element_foreign r.side r.cells in
-    let (to-kind, cap) = neither (w || h || element || kind_foreign r) (cap_foreign r) e in
-    let (to-element, kind) = neither (w || h || element) (kind_foreign r) to-kind in
-    let (sides, shape) = neither (w || h) element to-element in
+    let (to_kind, cap) = neither (w || h || element || kind_foreign r) (cap_foreign r) e in
+    let (to_element, kind) = neither (w || h || element) (kind_foreign r) to_kind in
+    let (sides, shape) = neither (w || h) element to_element in
     let (wide, high) = neither w h sides in
     (wide, high, shape, kind, cap)
 

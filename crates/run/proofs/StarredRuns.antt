@@ -8,7 +8,7 @@ use lib.ListN.{length, get_or, drop}
 use Rattle.basics.specs.Bounds.{any_above}
 use Rattle.basics.specs.Refusals.{Refusal, first}
 use Rattle.basics.specs.Tables.{table, raster}
-use Rattle.grid.specs.Starred.{Question, erosionLevels, openingLevels, dilationLevels, closingLevels, erodedBy, openedBy, Case}
+use Rattle.grid.specs.Starred.{Question, erosion_levels, opening_levels, dilation_levels, closing_levels, eroded_by, opened_by, Case}
 use Rattle.grid.specs.Starred.{cropped_levels, starred_cases as cases}
 use Rattle.grid.proofs.Searches.{Yes, by_test, both_dec, same_dec}
 use Rattle.element.specs.Elements.{is_side, count_set}
@@ -38,13 +38,13 @@ shows_dec start picture given answer =
     (both_dec (ℕ_discrete (first start) 0) (both_dec (ℕ_discrete (first picture) 0) (list_dec given answer)))
 
 given_dec : (q : Question) (c : Case) → Dec (Given q c)
-given_dec erosionLevels c = shows_dec _ _ _ _
-given_dec (dilationLevels R) c = shows_dec _ _ _ _
-given_dec (erodedBy n) c = shows_dec _ _ _ _
+given_dec erosion_levels c = shows_dec _ _ _ _
+given_dec (dilation_levels R) c = shows_dec _ _ _ _
+given_dec (eroded_by n) c = shows_dec _ _ _ _
 given_dec (cropped_levels width height R) c = shows_dec _ _ _ _
-given_dec openingLevels c = yes tt
-given_dec (closingLevels R) c = yes tt
-given_dec (openedBy n) c = yes tt
+given_dec opening_levels c = yes tt
+given_dec (closing_levels R) c = yes tt
+given_dec (opened_by n) c = yes tt
 
 all_dec : (rest : List Case) → Dec (RunsGive rest)
 all_dec [] = yes tt

@@ -9,7 +9,7 @@ use lib.Dec.{leb, ltb}
 use lib.IntN.{pos, ◌+ℤ◌, ◌-ℤ◌, -ℤ-+ℤ_cancel, +ℤ-neg_ℤ_cancel}
 use lib.ListN.{get_or}
 use borrow.Author.Tests.{le-leb, lt-ltb, eq-eqb, ne_eqb, leb-true, ltb-true}
-use Rattle.basics.proofs.TableLaws.{get_d_raster}
+use Rattle.basics.proofs.TableLaws.{get_or-raster}
 use Rattle.grid.specs.Points.{Point, at}
 use Rattle.grid.specs.Figures.{frame}
 use Rattle.grid.specs.Crops.{background}
@@ -81,7 +81,7 @@ module _ (width height margin : ℕ) (sheet : List ℕ) (row col : ℕ) where
 
     level_at_lem : level ≡ start_level width height margin sheet on off outside row col
     unfolding start_area
-    level_at_lem = get_d_raster (canvas_side width margin) (canvas_side height margin)
+    level_at_lem = get_or-raster (canvas_side width margin) (canvas_side height margin)
         (start_level width height margin sheet on off outside) row col 0 a b
 
     pub level_on_lem : foreground width height sheet x → level ≡ on

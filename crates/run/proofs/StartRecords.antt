@@ -15,7 +15,7 @@ use Rattle.basics.specs.Bounds.{any_above}
 use Rattle.basics.specs.Refusals.{first}
 use Rattle.basics.specs.Tables.{raster}
 use Rattle.basics.proofs.Arithmetic.{row_of, column_of, entry_of, row_below, column_below}
-use Rattle.basics.proofs.TableLaws.{length-raster, get_d_raster, raster_is}
+use Rattle.basics.proofs.TableLaws.{length-raster, get_or-raster, raster_is}
 use Rattle.grid.specs.Figures.{reach}
 use Rattle.element.specs.Elements.{byte_at, count_set, element_refusals}
 use Rattle.element.specs.Cells.{cell_at, is_held, centred_cell, centred, flat, seven_by_seven}
@@ -71,7 +71,7 @@ module _ (side : ℕ) (bytes : List ℕ) (given : Accepted side bytes) where
   unfolding flat centred
   entry k l =
       ap (λ n. get_or (raster 7 7 (cell_at (seven_by_seven (centred_cell side bytes)))) n 0) (sym (entry_of 7 k))
-      ∙ get_d_raster 7 7 (cell_at (seven_by_seven (centred_cell side bytes))) (k / 7) (k % 7) 0 (omega arith) (omega arith)
+      ∙ get_or-raster 7 7 (cell_at (seven_by_seven (centred_cell side bytes))) (k / 7) (k % 7) 0 (omega arith) (omega arith)
       ∙ seven_at (centred_cell side bytes) (k / 7) (k % 7) (omega arith) (omega arith)
 
   pub length_cells : length (flat (centred side bytes)) ≡ 49
@@ -184,7 +184,7 @@ module _ (r : Record) (s : Sound r) (size : length r.cells ≡ 49) where
   byte_is : (row col : ℕ) → row < side → col < side
       → byte_at side bytes row col ≡ get_or r.cells ((row + (3 - reach side)) * 7 + (col + (3 - reach side))) 0
   unfolding square
-  byte_is row col a b = get_d_raster side side
+  byte_is row col a b = get_or-raster side side
       (λ row col. get_or r.cells ((row + (3 - reach side)) * 7 + (col + (3 - reach side))) 0) row col 0 a b
 
   length_bytes : length bytes ≡ side * side

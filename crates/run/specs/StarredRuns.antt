@@ -2,7 +2,7 @@
 use Rattle.std.specs.Prelude.{ℕ, ◌≡◌, List, [], ◌∷◌, replicate}
 use Rattle.basics.specs.Refusals.{Refusal, first}
 use Rattle.basics.specs.Tables.{raster}
-use Rattle.grid.specs.Starred.{drawn, Question, erosionLevels, openingLevels, dilationLevels, closingLevels, erodedBy, openedBy}
+use Rattle.grid.specs.Starred.{drawn, Question, erosion_levels, opening_levels, dilation_levels, closing_levels, eroded_by, opened_by}
 use Rattle.grid.specs.Starred.{cropped_levels, Case, full_row}
 use Rattle.sheet.specs.Sheets.{packed}
 use Rattle.row.specs.RowRule.{none}
@@ -53,17 +53,17 @@ Collected kind R refusals c =
 
 -- so for the erosion and dilation questions of the table; the others are no runs' (StarredFilters of filters)
 abbrev pub Given : Question → Case → Type 0
-Given erosionLevels c = Collected eroding 0 (erosion_refusals c.width c.height (sheet_of c) 3 (bytes_of c)) c
-Given (dilationLevels R) c = Collected dilating R (dilation_refusals c.width c.height (sheet_of c) 3 (bytes_of c) R) c
+Given erosion_levels c = Collected eroding 0 (erosion_refusals c.width c.height (sheet_of c) 3 (bytes_of c)) c
+Given (dilation_levels R) c = Collected dilating R (dilation_refusals c.width c.height (sheet_of c) 3 (bytes_of c) R) c
 Given (cropped_levels width height R) c =
     Collected cropping R (dilation_refusals c.width c.height (sheet_of c) 3 (bytes_of c) R) c
-Given (erodedBy n) c =
+Given (eroded_by n) c =
     Shows (erosion_refusals c.width c.height (sheet_of c) 3 (bytes_of c) (last_levels c eroding 0))
     (threshold_refusals (whole (record_of c eroding 0)) (last_levels c eroding 0) n (picture_of c))
     (thresholded (whole (record_of c eroding 0)) (last_levels c eroding 0) n) (picture_of c)
-Given openingLevels c = Unit {0}
-Given (closingLevels R) c = Unit {0}
-Given (openedBy n) c = Unit {0}
+Given opening_levels c = Unit {0}
+Given (closing_levels R) c = Unit {0}
+Given (opened_by n) c = Unit {0}
 
 abbrev pub RunsGive : List Case → Type 0
 RunsGive [] = Unit {0}

@@ -177,9 +177,9 @@ module _ {area : Area} {width height R r : ℕ} {A K : PointSet} {own : Point �
       let (col', k', g) = on_side margin width col (neg b).col k (omega arith) in
       let cw = given.canvas_width in
       let ch = given.canvas_height in
-      let at-end : a ≡ spot (row + margin) (col + margin) = sym (⊖_cancel a (spot margin margin))
+      let at_end : a ≡ spot (row + margin) (col + margin) = sym (⊖_cancel a (spot margin margin))
       ∙ ap (λ p. p ⊕ spot margin margin) e in
-      inl (row', col', omega arith, omega arith, ⊕-move a y b q ∙ ap (λ p. p ⊕ neg b) at-end ∙ ap₂ at f g)
+      inl (row', col', omega arith, omega arith, ⊕-move a y b q ∙ ap (λ p. p ⊕ neg b) at_end ∙ ap₂ at f g)
 
   -- A lies on the canvas
   on : (x : Point) → Moved x → look area start x ≡ own (x ⊕ corner)

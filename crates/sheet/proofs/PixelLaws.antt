@@ -9,7 +9,7 @@ use mathlib.Core.List.{List}
 use lib.Dec.{ltb}
 use lib.ListN.{length}
 use borrow.Author.Tests.{lt-ltb, ltb-true}
-use Rattle.basics.proofs.TableLaws.{length-raster, get_d_raster, raster_same}
+use Rattle.basics.proofs.TableLaws.{length-raster, get_or-raster, raster_same}
 use Rattle.grid.specs.Sets.{◌≈◌}
 use Rattle.grid.specs.Figures.{figure}
 use Rattle.grid.proofs.FigureLaws.{figure_same}
@@ -73,7 +73,7 @@ module _ (width height : ℕ) (pixels : ℕ → ℕ → ℕ) where
   unfolding pixel packed
   pixel-packed binary row col a b =
       ap (λ byte. bit byte (col % 8))
-      (get_d_raster (row_bytes width) height (λ row k. byte_packed width (pixels row) k) row (col / 8) 0 a (omega arith))
+      (get_or-raster (row_bytes width) height (λ row k. byte_packed width (pixels row) k) row (col / 8) 0 a (omega arith))
       ∙ bit_packed width (pixels row) (λ c l. binary row c a l) (col / 8) (col % 8) (omega arith)
       ∙ bit_at width (pixels row) (λ c l. binary row c a l) col b
 

@@ -12,7 +12,7 @@ use Rattle.basics.specs.Sums.{sum}
 use Rattle.basics.specs.Tables.{table}
 use Rattle.basics.proofs.RefusalLaws.{accepts, refuses}
 use Rattle.basics.proofs.SumLaws.{sum_same}
-use Rattle.basics.proofs.TableLaws.{length-table, get_d_table}
+use Rattle.basics.proofs.TableLaws.{length-table, get_or-table}
 use Rattle.grid.specs.Points.{at}
 use Rattle.grid.specs.Levels.{IsOpeningLevel}
 use Rattle.grid.proofs.Existence.{opening_level_exists}
@@ -41,7 +41,7 @@ counts_table width height entries level counts e long short wide high =
     let l : length counts ≡ entries = ap length e ∙ length-table (points_of width height level) entries in
     let s : sum (length counts) (λ n. get_or counts n 0) ≡ sum entries (points_of width height level) =
     ap (λ n. sum n (λ n. get_or counts n 0)) l ∙ sum_same entries (λ n. get_or counts n 0) (points_of width height level)
-    (λ n b. ap (λ c. get_or c n 0) e ∙ get_d_table (points_of width height level) entries n 0 b) in
+    (λ n b. ap (λ c. get_or c n 0) e ∙ get_or-table (points_of width height level) entries n 0 b) in
     let t = counts_below width height level entries in
     let a = area_small height width high wide in
     record { long = omega arith; short = omega arith; adds_up = omega arith }

@@ -17,11 +17,11 @@ use Rattle.basics.specs.Sums.{sum, points_where}
 use Rattle.basics.specs.Tables.{table, raster}
 use Rattle.basics.proofs.RefusalLaws.{answers_unique}
 use Rattle.basics.proofs.SumLaws.{sum_same, points_same}
-use Rattle.basics.proofs.TableLaws.{length-table, get_d_table}
+use Rattle.basics.proofs.TableLaws.{length-table, get_or-table}
 use Rattle.grid.specs.Points.{at}
 use Rattle.grid.specs.Sets.{PointSet}
 use Rattle.grid.specs.Levels.{IsOpeningLevel}
-use Rattle.grid.specs.Starred.{drawn, one_row, pair, openingLevels}
+use Rattle.grid.specs.Starred.{drawn, one_row, pair, opening_levels}
 use Rattle.grid.proofs.LevelLaws.{last_unique, opening_iff, opening_positive}
 use Rattle.grid.proofs.PointLaws.{pos_inj}
 use Rattle.grid.proofs.SameSets.{itself, answer_same}
@@ -61,7 +61,7 @@ module _ {width height : ℕ} {A K : PointSet} {counts : List ℕ} (given : IsSp
 
   table_entry : (n : ℕ) → n ≤ max width height → get_or counts n 0 ≡ points_of width height given.level n
   table_entry n l = ap (λ c. get_or c n 0) given.counted
-      ∙ get_d_table (points_of width height given.level) (max width height + 1) n 0 (omega arith)
+      ∙ get_or-table (points_of width height given.level) (max width height + 1) n 0 (omega arith)
 
   table-sum : sum (length counts) (λ n. get_or counts n 0)
       ≡ sum (max width height + 1) (points_of width height given.level)
@@ -229,7 +229,7 @@ padding_ignored input one other e same bytes lent m n x y p q =
     carried s = record {
       level = s.level;
       is_level = λ row col a b. answer_same (same_set input.width input.height one other same) (itself (element_of input bytes))
-          openingLevels (at (pos row) (pos col)) (s.level row col) (s.is_level row col a b);
+          opening_levels (at (pos row) (pos col)) (s.level row col) (s.is_level row col a b);
       counted = s.counted;
     }
 
