@@ -36,14 +36,14 @@ module _ (input : Input) (sheet bytes : List ℕ) where
 
 -- levels asked for
 module _ (input : Input) (sheet bytes : List ℕ) (plan : Plan) (lent : Buffers)
-    (z : first (plan_refusals input sheet bytes plan (lengths_of lent)) ≡ 0) (levels-asked : plan.packed ≡ false)
+    (z : first (plan_refusals input sheet bytes plan (lengths_of lent)) ≡ 0) (levels_asked : plan.packed ≡ false)
     {run : Record} {levels : List ℕ} (p : IsFirstRun input sheet bytes plan lent run levels) where
   pub levels_ready : Ready run levels lent.second × (Bounded plan levels × (length lent.out ≡ run.height * run.width))
   levels_ready = (
     plan_ready input sheet bytes plan lent z p,
     (
       rw p.1 (first_bounded input sheet bytes plan lent.first (plan_starts input sheet bytes plan lent z)),
-      plan_room input sheet bytes plan lent z false levels-asked p,
+      plan_room input sheet bytes plan lent z false levels_asked p,
     ),
   )
 

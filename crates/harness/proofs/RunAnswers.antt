@@ -80,11 +80,11 @@ module _ (words levels : List ℕ) (size : ℕ) (out state : List ℕ) where
         latest_refuses (provisional_refusals (record_of words) levels size out) [] tt tt tt refusals
         (rw (h, ne_eqb (length state) 1 a)) e (f ∙ ap (λ r. first (provisional_refusals r levels size out)) q)
 
-    pub look_answers : length state ≡ 1 → (n : ℕ) (is-final : Bool) (after : List ℕ)
-        → ShowsProvisional run levels size out n (is-final, after)
-        → (v : ℕ) → v ≡ flag is-final → (next : List ℕ) → next ≡ answered n (v ∷ []) state
+    pub look_answers : length state ≡ 1 → (n : ℕ) (is_final : Bool) (after : List ℕ)
+        → ShowsProvisional run levels size out n (is_final, after)
+        → (v : ℕ) → v ≡ flag is_final → (next : List ℕ) → next ≡ answered n (v ∷ []) state
         → ShowsProvisionalWords words levels size out state n (after, next)
-    look_answers a n is-final after p v f next e =
+    look_answers a n is_final after p v f next e =
         slice_answers (λ b. flag b ∷ []) state next (rw q at p) fits (rw f at e)
       where
         fits : first refusals ≡ first (provisional_refusals (record_of words) levels size out)

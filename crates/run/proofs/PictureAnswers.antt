@@ -121,8 +121,8 @@ module _ (r : Record) (levels : List ℕ) (n room wanted : ℕ) where
   pub view_taken : judged ≡ 0 → (n ≤ size_limit r) × (levels_wrong r levels ≡ false) × (room ≡ wanted)
   view_taken z =
       let of_room : List Refusal = (11, not (eqb room wanted)) ∷ [] in
-      let of-levels : List Refusal = (10, levels_wrong r levels) ∷ of_room in
-      let (size, rest) = passed 8 (ltb (size_limit r) n) of-levels (λ q. absurd (omega arith)) z in
+      let of_levels : List Refusal = (10, levels_wrong r levels) ∷ of_room in
+      let (size, rest) = passed 8 (ltb (size_limit r) n) of_levels (λ q. absurd (omega arith)) z in
       let (b, last) = passed 10 (levels_wrong r levels) of_room (λ q. absurd (omega arith)) rest in
       let (e, _) = passed 11 (not (eqb room wanted)) [] (λ q. absurd (omega arith)) last in
       (ltb-false (size_limit r) n size, b, eqb-true room wanted (not-false _ e))
