@@ -1,6 +1,6 @@
 //! Links the verified library: `libharness.a` in the directory that `WALUGTIRIM_LIB_DIR` names, or else where
-//! `rt staticlib harness` puts it. Where it is not there, or is for another processor, the build ends with a sentence
-//! that says what to do. It is also the build script of `tests/random`.
+//! `rt lib --cpu x86-64` in `crates/harness` puts it. Where it is not there, or is for another processor, the build ends
+//! with a sentence that says what to do. It is also the build script of `tests/random`.
 
 use std::path::{Path, PathBuf};
 use std::process::ExitCode;
@@ -29,19 +29,19 @@ fn main() -> ExitCode {
     ExitCode::SUCCESS
 }
 
-/// `target/staticlib` of the project, which is the nearest directory above with the list of its crates.
+/// `crates/harness/out` of the project, which is the nearest directory above with the list of its crates.
 fn built_directory(package: &Path) -> PathBuf {
     let project = package
         .ancestors()
         .find(|above| above.join("crates.txt").is_file());
-    project.unwrap_or(package).join("target/staticlib")
+    project.unwrap_or(package).join("crates/harness/out")
 }
 
 /// What to do where there is no archive.
 fn missing(archive: &Path) -> Option<String> {
     let name = archive.display();
     (!archive.is_file()).then(|| {
-        format!("there is no {name}: run `rt staticlib harness`, or name the archive's directory in WALUGTIRIM_LIB_DIR")
+        format!("there is no {name}: run `rt lib --cpu x86-64` in crates/harness, or name the archive's directory in WALUGTIRIM_LIB_DIR")
     })
 }
 
@@ -55,7 +55,7 @@ fn foreign(archive: &Path) -> Option<String> {
         "put `./x86-64` in front of the command (`../x86-64` from within rust/), or name the directory of an archive \
          for this processor in WALUGTIRIM_LIB_DIR (`bench/native` makes one)"
     } else {
-        "leave WALUGTIRIM_LIB_DIR unset and run `rt staticlib harness`, which makes one for x86_64"
+        "leave WALUGTIRIM_LIB_DIR unset and run `rt lib --cpu x86-64` in crates/harness, which makes one for x86_64"
     };
     let name = archive.display();
     (made_for != built_for)

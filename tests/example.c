@@ -1,7 +1,7 @@
 /*
  * Erodes a full sheet of 3 by 3 with the cross, in two slices with a look after each, and prints its levels.
  *
- * Build: cc -I include tests/example.c target/staticlib/libharness.a -o example
+ * Build: cc -I include tests/example.c crates/harness/out/libharness.a -o example
  */
 #include <stdio.h>
 

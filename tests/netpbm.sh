@@ -3,14 +3,14 @@
 #
 # Usage: tests/netpbm.sh
 #
-# WALUGTIRIM_LIB_DIR names the directory of libharness.a (default: target/staticlib of the repository). Installs
+# WALUGTIRIM_LIB_DIR names the directory of libharness.a (default: crates/harness/out of the repository). Installs
 # Debian's netpbm if it is missing. Prints a line for each check and ends with `netpbm: N passed, M failed`.
 #
 # shellcheck disable=SC2317 # the conditions are called through `check`
 set -u
 
 root=$(cd "$(dirname "$0")/.." && pwd)
-library=${WALUGTIRIM_LIB_DIR:-$root/target/staticlib}
+library=${WALUGTIRIM_LIB_DIR:-$root/crates/harness/out}
 [ -d "$library" ] && library=$(cd "$library" && pwd)
 work=$root/target/netpbm
 . "$root/tests/counted.sh"

@@ -1,11 +1,11 @@
 #!/bin/sh
 # README's first command, and the program through it: on inputs at its limits and on damaged ones; where it has to be built first;
-# and where the processor asks for an emulator. Needs target/ as rt ci leaves it. The last line is `program: N passed, M failed`.
+# and where the processor asks for an emulator. Needs the program as rt ci leaves it. The last line is `program: N passed, M failed`.
 #
 # shellcheck disable=SC2059,SC2317 # the expected texts are formats, and the conditions are called through `check`
 set -u
 root=$(cd "$(dirname "$0")/.." && pwd)
-program=$root/target/bin/erode
+program=$root/crates/erode/out/erode
 work=$(mktemp -d)
 trap 'rm -rf "$work"' EXIT
 . "$root/tests/counted.sh"
@@ -78,7 +78,7 @@ fails() {
 as_in_readme() {
     command=$(grep -m 1 '^    \./erode ' "$root/README.md") || return 1
     mkdir "$work/clone"
-    for name in erode x86-64 crates crates.txt sheets target; do
+    for name in erode x86-64 crates crates.txt sheets; do
         ln -s "$root/$name" "$work/clone/$name"
     done
     (cd "$work/clone" && sh -c "$command") && cmp -s "$work/clone/levels.pgm" "$work/levels"
@@ -106,14 +106,9 @@ erode --help
 check "help" grep -q '^Usage: ./erode' "$work/out"
 
 # A program that has to be built: one older than its sources, first where that fails, and one that is gone.
-mkdir "$work/failing" "$work/building" "$work/emulating"
+mkdir "$work/failing" "$work/emulating"
 printf '#!/bin/sh\necho not proved\nexit 1\n' >"$work/failing/rt"
-# rt builds what has no stamp; this one does it at once.
-cat >"$work/building/rt" <<END
-#!/bin/sh
-[ ! -e target/stamp/erode ] && cp -p "$work/kept" target/bin/erode
-END
-chmod +x "$work/failing/rt" "$work/building/rt"
+chmod +x "$work/failing/rt"
 touch -d '2000-01-01' "$program"
 instead=$work/failing
 erode "$sheet"
@@ -122,14 +117,9 @@ instead=
 erode "$sheet"
 check "a program older than its sources" gives_levels
 check "it is said that it was built" grep -q '^erode: proved and built in [0-9]* seconds$' "$work/err"
-cp -p "$program" "$work/kept"
-cp -p "$root/target/stamp/erode" "$work/stamp"
 rm "$program"
-instead=$work/building
 erode "$sheet"
 check "a program that is gone" gives_levels
-instead=
-mv "$work/stamp" "$root/target/stamp/erode"
 erode "$sheet"
 check "it is built once" [ ! -s "$work/err" ]
 
@@ -146,6 +136,6 @@ instead=$work/emulating
 erode "$sheet"
 check "under an emulator: the bytes" cmp -s "$work/out" "$work/levels"
 check "under an emulator: the status" [ "$status" -eq 7 ]
-check "under an emulator: the program" grep -q 'target/bin/erode$' "$work/emulated"
+check "under an emulator: the program" grep -q 'crates/erode/out/erode$' "$work/emulated"
 
 finish program

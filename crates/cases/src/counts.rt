@@ -1,5 +1,6 @@
 // How many points slices of rows lower, of an erosion of a sheet of 3 by 3 with the cross.
 use super::lines;
+use std::io;
 
 // The second of two slices.
 fn second_slice(sheet: &[u8], first: usize, second: usize) -> usize {
@@ -11,16 +12,17 @@ fn second_slice(sheet: &[u8], first: usize, second: usize) -> usize {
     continued.lowered
 }
 
-pub fn say_counts() {
+pub fn say_counts(rt: &impl Print) -> io::Result<()> {
     let full = [224u8; 3];
     let blank = [0u8; 3];
-    lines::say_count(b"full sheet, rows 1 and 2", second_slice(&full, 0, 2));
-    lines::say_count(b"full sheet, rows 3 to 6", second_slice(&full, 2, 4));
-    lines::say_count(b"full sheet, rows 1 to 6", second_slice(&full, 0, 6));
-    lines::say_count(b"full sheet, no rows due", second_slice(&full, 6, 6));
+    lines::say_count(rt, b"full sheet, rows 1 and 2", second_slice(&full, 0, 2))?;
+    lines::say_count(rt, b"full sheet, rows 3 to 6", second_slice(&full, 2, 4))?;
+    lines::say_count(rt, b"full sheet, rows 1 to 6", second_slice(&full, 0, 6))?;
+    lines::say_count(rt, b"full sheet, no rows due", second_slice(&full, 6, 6))?;
     lines::say_count(
+        rt,
         b"full sheet, an allowance of 8193",
         second_slice(&full, 0, 8193),
-    );
-    lines::say_count(b"blank sheet, rows 1 to 6", second_slice(&blank, 0, 6));
+    )?;
+    lines::say_count(rt, b"blank sheet, rows 1 to 6", second_slice(&blank, 0, 6))
 }

@@ -5,6 +5,7 @@ ghost use Rattle.std.specs.Prelude.{◌≤◌, length};
 
 use super::asking::Case;
 use super::{asking, lines, rooms};
+use std::io;
 
 // The longest file of a line.
 const FILE: usize = 32;
@@ -46,7 +47,7 @@ fn call_of(name: &[u8], names: &[u8]) -> usize {
     let mut at = 0;
     while at < names.len() {
         let end = place_of(b',', names, at);
-        if check::same(name, &names[at..end]) {
+        if name == &names[at..end] {
             return call;
         }
         if end == names.len() {
@@ -121,12 +122,12 @@ fn number_for(call: &[u8], words: &[u8], text: &[u8]) -> u32 {
     rooms::answer(case, &file[0..length])
 }
 
-fn answer_line(line: &[u8]) {
+fn answer_line(rt: &impl Print, line: &[u8]) -> io::Result<()> {
     if line.len() == 0 {
-        return;
+        return Ok(());
     }
     if line[0] == b'#' {
-        return;
+        return Ok(());
     }
     let comma = place_of(b',', line, 0);
     let colon = place_of(b':', line, comma);
@@ -134,17 +135,18 @@ fn answer_line(line: &[u8]) {
     let bar = place_of(b'|', line, from);
     let rest = place_after(line, bar, 1);
     let number = number_for(&line[0..comma], &line[from..bar], &line[rest..]);
-    lines::say(&line[0..colon], number);
+    lines::say(rt, &line[0..colon], number)
 }
 
-pub fn answer_all(text: &[u8]) {
+pub fn answer_all(rt: &impl Print, text: &[u8]) -> io::Result<()> {
     let mut at = 0;
     while at < text.len() {
         let end = place_of(b'\n', text, at);
-        answer_line(&text[at..end]);
+        answer_line(rt, &text[at..end])?;
         if end == text.len() {
-            return;
+            return Ok(());
         }
         at = end + 1;
     }
+    Ok(())
 }

@@ -4,12 +4,11 @@
 // dilated by a map, and the spectrum of case 6.
 #![tactic(auto)]
 
-use libc::STDIN_FILENO;
-
 mod asking;
 mod calls;
 mod counts;
 mod crops;
+mod input;
 mod lines;
 mod lists;
 mod padding;
@@ -18,13 +17,18 @@ mod records;
 mod rooms;
 mod sizes;
 
-fn main() {
-    let mut input = io::large_buffer();
-    let length = io::read_full(STDIN_FILENO, &mut input);
-    lists::answer_all(&input[..length]);
-    padding::same_answers();
-    counts::say_counts();
-    crops::say_crops();
-    perspective::say_perspective();
-    sizes::say_spectrum();
+use std::io;
+
+// As much of the input as is read.
+const INPUT: usize = 65536;
+
+fn main(rt: HostRuntime) -> io::Result<()> {
+    let mut input = [0u8; INPUT];
+    let length = input::read_full(&mut rt.reader(), &mut input)?;
+    lists::answer_all(&rt, &input[..length])?;
+    padding::same_answers(&rt)?;
+    counts::say_counts(&rt)?;
+    crops::say_crops(&rt)?;
+    perspective::say_perspective(&rt)?;
+    sizes::say_spectrum(&rt)
 }

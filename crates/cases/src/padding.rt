@@ -5,6 +5,7 @@ ghost use Rattle.std.specs.Prelude.{◌≤◌};
 use super::asking::Case;
 use super::{asking, calls, lines};
 use run::Record;
+use std::io;
 
 const CROSS: [u8; 9] = [0, 1, 0, 1, 1, 1, 0, 1, 0];
 
@@ -107,7 +108,7 @@ fn left_by(call: usize, sheet: &[u8], work: usize, room: usize) -> Left
 }
 
 // Compares what a call leaves of the sheet with its padding bits unset and set.
-fn compare(name: &[u8], call: usize, work: usize, room: usize)
+fn compare(rt: &impl Print, name: &[u8], call: usize, work: usize, room: usize) -> io::Result<()>
     requires { (work ≤ 55) × (room ≤ 13) }
 {
     let unset = [255u8, 128, 255, 128, 255, 128];
@@ -119,10 +120,9 @@ fn compare(name: &[u8], call: usize, work: usize, room: usize)
     let one_bytes = one.bytes;
     let other_bytes = other.bytes;
     if same_levels(one_levels, other_levels) {
-        lines::say_same(name, check::same(&one_bytes, &other_bytes));
-        return;
+        return lines::say_same(rt, name, one_bytes == other_bytes);
     }
-    lines::say_same(name, false);
+    lines::say_same(rt, name, false)
 }
 
 fn read(file: &[u8]) -> [u8; SHEET] {
@@ -131,14 +131,14 @@ fn read(file: &[u8]) -> [u8; SHEET] {
     out
 }
 
-fn compare_read() {
+fn compare_read(rt: &impl Print) -> io::Result<()> {
     let one = read(b"P4\n9 3\n\xff\x80\xff\x80\xff\x80");
     let other = read(b"P4\n9 3\n\xff\xff\xff\xff\xff\xff");
-    lines::say_same(b"read_pbm", check::same(&one, &other));
+    lines::say_same(rt, b"read_pbm", one == other)
 }
 
 // The picture of the erosion of the sheet with its padding bits set.
-fn show_levels() {
+fn show_levels(rt: &impl Print) -> io::Result<()> {
     let sheet = [255u8; SHEET];
     let mut work = [0u16; FRAME];
     let mut levels = [0u16; FRAME];
@@ -152,19 +152,25 @@ fn show_levels() {
     );
     let mut text = [0u8; 128];
     let written = pgm::finished::write_pgm(done, &levels, &mut text);
-    lines::say_text(&text, written.length);
+    lines::say_text(rt, &text, written.length)
 }
 
-pub fn same_answers() {
-    show_levels();
-    compare(b"erosion levels", asking::START_EROSION, FRAME, SHEET);
-    compare(b"erosion by 1", asking::START_EROSION, FRAME, SHEET);
-    compare(b"dilation levels", asking::START_DILATION, CANVAS, SHEET);
-    compare(b"cropped levels", asking::START_CROPPED, CANVAS, SHEET);
-    compare(b"write_pbm", asking::WRITE_PBM, FRAME, FILE);
-    compare_read();
-    compare(b"opening by 1", asking::OPEN, FRAME, SHEET);
-    compare(b"closing by 1", asking::CLOSE, CANVAS, SHEET);
-    compare(b"opening levels", asking::OPENING_LEVELS, FRAME, FILE);
-    compare(b"closing levels", asking::CLOSING_LEVELS, CANVAS, FILE);
+pub fn same_answers(rt: &impl Print) -> io::Result<()> {
+    show_levels(rt)?;
+    compare(rt, b"erosion levels", asking::START_EROSION, FRAME, SHEET)?;
+    compare(rt, b"erosion by 1", asking::START_EROSION, FRAME, SHEET)?;
+    compare(
+        rt,
+        b"dilation levels",
+        asking::START_DILATION,
+        CANVAS,
+        SHEET,
+    )?;
+    compare(rt, b"cropped levels", asking::START_CROPPED, CANVAS, SHEET)?;
+    compare(rt, b"write_pbm", asking::WRITE_PBM, FRAME, FILE)?;
+    compare_read(rt)?;
+    compare(rt, b"opening by 1", asking::OPEN, FRAME, SHEET)?;
+    compare(rt, b"closing by 1", asking::CLOSE, CANVAS, SHEET)?;
+    compare(rt, b"opening levels", asking::OPENING_LEVELS, FRAME, FILE)?;
+    compare(rt, b"closing levels", asking::CLOSING_LEVELS, CANVAS, FILE)
 }

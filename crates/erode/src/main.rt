@@ -1,12 +1,14 @@
 // Erodes a raw PBM file with the cross: reads it on standard input, and prints the levels as plain PGM, or a refusal.
 #![tactic(auto)]
 
-use libc::{STDIN_FILENO, STDOUT_FILENO};
+mod input;
 
-fn main() {
-    let mut input = io::large_buffer();
-    let length = io::read_full(STDIN_FILENO, &mut input);
-    let mut sheet = io::large_buffer();
+use std::io;
+
+fn main(rt: HostRuntime) -> io::Result<()> {
+    let mut input = [0u8; printing::INPUT_END];
+    let length = input::read_full(&mut rt.reader(), &mut input)?;
+    let mut sheet = [0u8; printing::INPUT_END];
     let mut levels = [0u16; printing::MOST_PIXELS];
     let mut collected = [0u16; printing::MOST_PIXELS];
     let mut out = [0u8; printing::TEXT_ROOM];
@@ -17,5 +19,5 @@ fn main() {
         &mut collected,
         &mut out,
     );
-    io::write_all(STDOUT_FILENO, &out[..size]);
+    rt.write_all(&out[..size])
 }

@@ -20,8 +20,8 @@ pub extern "C" fn wt_open(
     out: &mut [u8],
 ) -> u32
     ensures { Opens (record { width = width; height = height; side = side }) sheet.now cells.now size
-        (record { first = first.entry.now; second = second.old; out = out.old }) result
-        (record { first = first.exit.now; second = second.new; out = out.new }) }
+        (record { first = first.old; second = second.old; out = out.old }) result
+        (record { first = first.new; second = second.new; out = out.new }) }
 {
     let input = Input {
         width: width as usize,
@@ -45,8 +45,8 @@ pub extern "C" fn wt_close(
     out: &mut [u8],
 ) -> u32
     ensures { Closes (record { width = width; height = height; side = side }) sheet.now cells.now size
-        (record { first = first.entry.now; second = second.old; out = out.old }) result
-        (record { first = first.exit.now; second = second.new; out = out.new }) }
+        (record { first = first.old; second = second.old; out = out.old }) result
+        (record { first = first.new; second = second.new; out = out.new }) }
 {
     let input = Input {
         width: width as usize,
@@ -69,8 +69,8 @@ pub extern "C" fn wt_opening_levels(
     out: &mut [u16],
 ) -> u32
     ensures { OpeningLevels (record { width = width; height = height; side = side }) sheet.now cells.now
-        (record { first = first.entry.now; second = second.old; out = out.old }) result
-        (record { first = first.exit.now; second = second.new; out = out.new }) }
+        (record { first = first.old; second = second.old; out = out.old }) result
+        (record { first = first.new; second = second.new; out = out.new }) }
 {
     let input = Input {
         width: width as usize,
@@ -94,8 +94,8 @@ pub extern "C" fn wt_closing_levels(
     out: &mut [u16],
 ) -> u32
     ensures { ClosingLevels (record { width = width; height = height; side = side }) sheet.now cells.now cap
-        (record { first = first.entry.now; second = second.old; out = out.old }) result
-        (record { first = first.exit.now; second = second.new; out = out.new }) }
+        (record { first = first.old; second = second.old; out = out.old }) result
+        (record { first = first.new; second = second.new; out = out.new }) }
 {
     let input = Input {
         width: width as usize,
@@ -120,8 +120,8 @@ pub extern "C" fn wt_dilate_by_map(
     out: &mut [u8],
 ) -> u32
     ensures { DilatesByMap (record { width = width; height = height; side = side }) sheet.now cells.now cap
-        map.now (record { work = work.entry.now; out = out.old }) result
-        (record { work = work.exit.now; out = out.new }) }
+        map.now (record { work = work.old; out = out.old }) result
+        (record { work = work.new; out = out.new }) }
 {
     let input = Input {
         width: width as usize,
@@ -146,8 +146,8 @@ pub extern "C" fn wt_spectrum(
     fractions: &mut [f64],
 ) -> u32
     ensures { GivesFractions (record { width = width; height = height; side = side }) sheet.now cells.now
-        (record { first = first.entry.now; second = second.old; out = table.old }) fractions.old result
-        (record { first = first.exit.now; second = second.new; out = table.new }, fractions.new) }
+        (record { first = first.old; second = second.old; out = table.old }) fractions.old result
+        (record { first = first.new; second = second.new; out = table.new }, fractions.new) }
 {
     let input = Input {
         width: width as usize,

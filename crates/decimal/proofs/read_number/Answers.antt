@@ -9,8 +9,8 @@ loop-i-init c = reading_start c.args.file.now c.args.at c.args.limit c.requires.
 pub returns-then-not-is_digit : goal.returns-then-not-is_digit
 returns-then-not-is_digit c =
     let loop = c.loop-i in
-    let loop-test = c.loop-i-test in
-    reading_stop loop.invariant loop-test.true (sym c.is_digit.ensures ∙ c.if-not-is_digit.true)
+    let loop_test = c.loop-i-test in
+    reading_stop loop.invariant loop_test.true (sym c.is_digit.ensures ∙ c.if-not-is_digit.true)
 
 pub read_on-sum-requires : goal.read_on-sum-requires
 read_on-sum-requires c = (
@@ -24,8 +24,8 @@ loop-i-smaller c = omega arith
 pub loop-i-preserved : goal.loop-i-preserved
 loop-i-preserved c =
     let loop = c.loop-i in
-    let loop-test = c.loop-i-test in
-    reading_turn loop.invariant loop-test.true (sym c.is_digit.ensures ∙ c.if-not-is_digit.false)
+    let loop_test = c.loop-i-test in
+    reading_turn loop.invariant loop_test.true (sym c.is_digit.ensures ∙ c.if-not-is_digit.false)
     c.read_on-sum.result c.read_on-sum.ensures
 
 pub returns : goal.returns

@@ -17,9 +17,7 @@ in_square side row col known a b d e =
 
 pub returns : goal.returns
 returns c =
-    let row_low = c in
-    let row-high = c in
-    sym (cell_in _ _ _ _ (held_in _ _ row_low.if-row-margin.false row-high.if-margin-side.false)
+    sym (cell_in _ _ _ _ (held_in _ _ c.if-row-margin.false c.if-margin-side.false)
     (held_in _ _ c.if-col-margin.false c.if-margin-side-2.false))
 
 pub overflow_sub-margin : goal.overflow_sub-margin

@@ -23,33 +23,27 @@ returns-then-bytes-side c =
 
 pub returns-then-any_above_one : goal.returns-then-any_above_one
 returns-then-any_above_one c =
-    let passed = c in
-    let args = passed.args in
-    refuse_byte args.side args.bytes.now (sym passed.is_side.ensures ∙ passed.if-not-is_side.false) passed.if-bytes-side.false
+    let args = c.args in
+    refuse_byte args.side args.bytes.now (sym c.is_side.ensures ∙ c.if-not-is_side.false) c.if-bytes-side.false
     (sym c.any_above_one.ensures ∙ c.if-any_above_one.true)
 
 pub returns-then-bytes-side-eq0 : goal.returns-then-bytes-side-eq0
 returns-then-bytes-side-eq0 c =
-    let passed = c in
-    let args = passed.args in
-    refuse_centre args.side args.bytes.now (sym passed.is_side.ensures ∙ passed.if-not-is_side.false) passed.if-bytes-side.false (sym c.any_above_one.ensures ∙ c.if-any_above_one.false)
+    let args = c.args in
+    refuse_centre args.side args.bytes.now (sym c.is_side.ensures ∙ c.if-not-is_side.false) c.if-bytes-side.false (sym c.any_above_one.ensures ∙ c.if-any_above_one.false)
     c.if-bytes-side-eq0.true
 
 pub returns-then-count_set-eq1 : goal.returns-then-count_set-eq1
 returns-then-count_set-eq1 c =
-    let set = c in
-    let passed = set in
-    let args = passed.args in
-    refuse_alone args.side args.bytes.now (sym passed.is_side.ensures ∙ passed.if-not-is_side.false) passed.if-bytes-side.false (sym set.any_above_one.ensures ∙ set.if-any_above_one.false)
-    set.if-bytes-side-eq0.false (sym c.count_set.ensures ∙ c.if-count_set-eq1.true)
+    let args = c.args in
+    refuse_alone args.side args.bytes.now (sym c.is_side.ensures ∙ c.if-not-is_side.false) c.if-bytes-side.false (sym c.any_above_one.ensures ∙ c.if-any_above_one.false)
+    c.if-bytes-side-eq0.false (sym c.count_set.ensures ∙ c.if-count_set-eq1.true)
 
 pub returns : goal.returns
 returns c =
-    let set = c in
-    let passed = set in
-    let args = passed.args in
-    accept_element args.side args.bytes.now (sym passed.is_side.ensures ∙ passed.if-not-is_side.false) passed.if-bytes-side.false (sym set.any_above_one.ensures ∙ set.if-any_above_one.false)
-    set.if-bytes-side-eq0.false (λ e. c.if-count_set-eq1.false (c.count_set.ensures ∙ e))
+    let args = c.args in
+    accept_element args.side args.bytes.now (sym c.is_side.ensures ∙ c.if-not-is_side.false) c.if-bytes-side.false (sym c.any_above_one.ensures ∙ c.if-any_above_one.false)
+    c.if-bytes-side-eq0.false (λ e. c.if-count_set-eq1.false (c.count_set.ensures ∙ e))
 
 pub overflow_sub-side : goal.overflow_sub-side
 overflow_sub-side c = omega (arith, (centre_entry _ (sym c.is_side.ensures ∙ c.if-not-is_side.false)))

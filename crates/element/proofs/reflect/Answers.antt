@@ -18,15 +18,15 @@ returns-then-out-bytes c =
 pub fill_reflected-requires : goal.fill_reflected-requires
 fill_reflected-requires c =
     let args = c.args in
-    let element-refusal = c.element_refusal-refusal in
-    let s = accepted args.side args.bytes.now (sym element-refusal.ensures ∙ c.if-refusal-ne0.false) in
+    let element_refusal = c.element_refusal-refusal in
+    let s = accepted args.side args.bytes.now (sym element_refusal.ensures ∙ c.if-refusal-ne0.false) in
     (s.side_is, (s.size, c.if-out-bytes.false))
 
 pub returns : goal.returns
 returns c =
     let args = c.args in
-    let element-refusal = c.element_refusal-refusal in
+    let element_refusal = c.element_refusal-refusal in
     let if1 = c.if-refusal-ne0 in
     let if2 = c.if-out-bytes in
-    reflect_accepts args.side args.bytes.now args.out.now _ (sym element-refusal.ensures ∙ if1.false) if2.false
+    reflect_accepts args.side args.bytes.now args.out.now _ (sym element_refusal.ensures ∙ if1.false) if2.false
     c.fill_reflected.ensures

@@ -5,8 +5,7 @@ use Rattle.filters.proofs.closing_levels.Goals as goal
 
 pub returns : goal.returns
 returns c =
-    let answered = c in
-    let args = answered.args in
+    let args = c.args in
     let lent : Buffers = record { first = args.first.now; second = args.second.now; out = args.out.now } in
     closing_answered args.input args.sheet.now args.bytes.now args.cap lent
-    answered.answer_levels.ensures
+    c.answer_levels.ensures

@@ -6,8 +6,7 @@ use Rattle.maps.proofs.any_above.Goals as goal
 
 pub returns-then-highest-cap : goal.returns-then-highest-cap
 returns-then-highest-cap c =
-    let entry = c in
-    let args = entry.args in
-    let f = entry.requires.map_size in
+    let args = c.args in
+    let f = c.requires.map_size in
     sym (none_large args.input args.sheet.now args.map.now args.cap
     (λ k l. let h = c.highest-highest.ensures.all k (omega arith) in let t = c.if-highest-cap.true in omega arith))

@@ -22,15 +22,14 @@ or_assoc false b c = refl
 
 pub loop-col-preserved : goal.loop-col-preserved
 loop-col-preserved c =
-    let entry = c in
-    let args = entry.args in
+    let args = c.args in
     let loop = c.loop-col in
     let rest = above_from args.cap (sizes_seen args.input args.sheet.now args.map.now)
     (args.row * args.input.width + (loop.col + 1)) in (
       omega arith,
       or_assoc loop.found c.is_above-found.result rest
           ∙ ap (λ t. loop.found || t) (ap (λ t. t || rest) c.is_above-found.ensures
-          ∙ sym (left_here args.input args.sheet.now args.map.now args.cap args.row loop.col entry.requires.1
+          ∙ sym (left_here args.input args.sheet.now args.map.now args.cap args.row loop.col c.requires.1
           c.loop-col-test.true))
           ∙ loop.invariant.1,
     )

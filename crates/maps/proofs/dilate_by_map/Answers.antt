@@ -10,31 +10,25 @@ returns-then-refusal-ne0 c = refuses _ c.if-refusal-ne0.true c.map_refusal-refus
 
 pub start_by_map-run-requires : goal.start_by_map-run-requires
 start_by_map-run-requires c =
-    let judged = c in
-    let args = judged.args in
+    let args = c.args in
     let lent : Buffers = record { work = args.work.now; out = args.out.now } in
     let taken = fit args.input args.sheet.now args.bytes.now args.cap args.map.now lent
-    (sym judged.map_refusal-refusal.ensures ∙ c.if-refusal-ne0.false) in
+    (sym c.map_refusal-refusal.ensures ∙ c.if-refusal-ne0.false) in
     (taken.begins, taken.map_size)
 
 pub finish_sheet-requires : goal.finish_sheet-requires
 finish_sheet-requires c =
-    let started = c in
-    let judged = started in
-    let args = judged.args in
+    let args = c.args in
     let lent : Buffers = record { work = args.work.now; out = args.out.now } in
     let taken = fit args.input args.sheet.now args.bytes.now args.cap args.map.now lent
-    (sym judged.map_refusal-refusal.ensures ∙ started.if-refusal-ne0.false) in
+    (sym c.map_refusal-refusal.ensures ∙ c.if-refusal-ne0.false) in
     map_finishes args.input args.sheet.now args.bytes.now args.cap args.work.now taken.begins args.map.now
-    started.start_by_map-run.ensures args.out.now taken.out_size
+    c.start_by_map-run.ensures args.out.now taken.out_size
 
 pub returns : goal.returns
 returns c =
-    let ended = c in
-    let started = ended in
-    let judged = started in
-    let args = judged.args in
+    let args = c.args in
     let lent : Buffers = record { work = args.work.now; out = args.out.now } in
     map_answered args.input args.sheet.now args.bytes.now args.cap args.map.now lent
-    (sym judged.map_refusal-refusal.ensures ∙ started.if-refusal-ne0.false) started.start_by_map-run.ensures _
-    ended.finish_sheet.ensures.0 ended.finish_sheet.ensures.1
+    (sym c.map_refusal-refusal.ensures ∙ c.if-refusal-ne0.false) c.start_by_map-run.ensures _
+    c.finish_sheet.ensures.0 c.finish_sheet.ensures.1

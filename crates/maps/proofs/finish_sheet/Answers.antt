@@ -9,16 +9,12 @@ use Rattle.maps.proofs.finish_sheet.Goals as goal
 
 pub pack_held-requires : goal.pack_held-requires
 pack_held-requires c =
-    let worked = c in
-    pack_ready worked.requires worked.finish.ensures
+    pack_ready c.requires c.finish.ensures
 
 pub returns : goal.returns
 returns c =
-    let packed = c in
-    let worked = packed in
-    let entry = worked in
-    let run = entry.args.run in (
+    let run = c.args.run in (
       c.clear.ensures ∙ ap (λ n. replicate n 0)
-          (ap length worked.finish.ensures ∙ rows_length (area_of run) 0 (due run) entry.args.work.now),
-      packed.pack_held.ensures ∙ ap (λ l. thresholded run l run.cap) worked.finish.ensures,
+          (ap length c.finish.ensures ∙ rows_length (area_of run) 0 (due run) c.args.work.now),
+      c.pack_held.ensures ∙ ap (λ l. thresholded run l run.cap) c.finish.ensures,
     )

@@ -31,12 +31,11 @@ overflow_add-place c = let l = in_map c.requires in omega arith
 
 pub pixel_at-pixel-requires : goal.pixel_at-pixel-requires
 pixel_at-pixel-requires c =
-    let entry = c in
-    let args = entry.args in
-    let fits = entry.requires.0 in
+    let args = c.args in
+    let fits = c.requires.0 in
     let w = fits.wide in
-    let col = entry.requires.1.1 in
-    let e = row_end (row_bytes args.input.width) args.input.height args.row entry.requires.1.0 in
+    let col = c.requires.1.1 in
+    let e = row_end (row_bytes args.input.width) args.input.height args.row c.requires.1.0 in
     let s = fits.sheet_size_lem in
     let h = fits.high in
     (w.1, (omega arith, (col, omega arith)))
@@ -54,7 +53,6 @@ overflow_cast-result c =
 
 pub returns : goal.returns
 returns c =
-    let entry = c in
-    let args = entry.args in
+    let args = c.args in
     seen_above args.input args.sheet.now args.map.now args.cap args.row args.col c.pixel_at-pixel.result
-    entry.requires.1.0 entry.requires.1.1 c.pixel_at-pixel.ensures
+    c.requires.1.0 c.requires.1.1 c.pixel_at-pixel.ensures

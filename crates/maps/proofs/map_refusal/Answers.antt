@@ -62,20 +62,18 @@ any_above-requires c =
 
 pub returns-then-any_above : goal.returns-then-any_above
 returns-then-any_above c =
-    let judged = c in
-    let args = judged.args in
+    let args = c.args in
     let lent : Buffers = record { work = args.work.now; out = args.out.now } in
     refused_size args.input args.sheet.now args.bytes.now args.cap args.map.now lent
-    (sym judged.dilation_refusal-refusal.ensures ∙ c.if-refusal-ne0.false)
+    (sym c.dilation_refusal-refusal.ensures ∙ c.if-refusal-ne0.false)
     c.if-map-height.false c.row_bytes.ensures c.if-out-height.false
     (sym c.if-any_above.true ∙ c.any_above.ensures)
 
 pub returns : goal.returns
 returns c =
-    let judged = c in
-    let args = judged.args in
+    let args = c.args in
     let lent : Buffers = record { work = args.work.now; out = args.out.now } in
     none_refused args.input args.sheet.now args.bytes.now args.cap args.map.now lent
-    (sym judged.dilation_refusal-refusal.ensures ∙ c.if-refusal-ne0.false)
+    (sym c.dilation_refusal-refusal.ensures ∙ c.if-refusal-ne0.false)
     c.if-map-height.false c.row_bytes.ensures c.if-out-height.false
     (sym c.if-any_above.false ∙ c.any_above.ensures)

@@ -36,12 +36,12 @@ left_after-left-requires c = left_positive c.loop-k.invariant c.loop-k-test.true
 pub loop-k-preserved : goal.loop-k-preserved
 loop-k-preserved c =
     let loop = c.loop-k in
-    let loop-test = c.loop-k-test in
-    let cleared-byte = c.cleared_byte-byte in
+    let loop_test = c.loop-k-test in
+    let cleared_byte = c.cleared_byte-byte in
     let b = c.shared_slice_known-in-loop-k-1.given loop.k in
-    clearing_turn loop.invariant loop-test.true
+    clearing_turn loop.invariant loop_test.true
     (get_or c.args.raster.now loop.k 0)
-    cleared-byte.result c.left_after-left.result refl (omega arith) cleared-byte.ensures c.left_after-left.ensures
+    cleared_byte.result c.left_after-left.result refl (omega arith) cleared_byte.ensures c.left_after-left.ensures
 
 pub shape_of-out : goal.shape_of-out
 shape_of-out c = clearing_length c.loop-k.invariant

@@ -15,10 +15,10 @@ read_field-width_found-requires c =
 
 pub returns-then-not-width_found : goal.returns-then-not-width_found
 returns-then-not-width_found c =
-    let begins-p4 = c.begins_p4 in
+    let begins_p4 = c.begins_p4 in
     let if1 = c.if-not-begins_p4 in
     rw c.header_refused-then-not-width_found.ensures (lost_width c.args.file.now
-    (sym begins-p4.ensures ∙ if1.false) c.read_field-width_found.ensures
+    (sym begins_p4.ensures ∙ if1.false) c.read_field-width_found.ensures
     (not-true _ c.if-not-width_found.true))
 
 pub read_field-height_found-requires : goal.read_field-height_found-requires
@@ -26,12 +26,12 @@ read_field-height_found-requires c = c.read_field-width_found.ensures.within
 
 pub returns-then-not-height_found : goal.returns-then-not-height_found
 returns-then-not-height_found c =
-    let begins-p4 = c.begins_p4 in
+    let begins_p4 = c.begins_p4 in
     let if1 = c.if-not-begins_p4 in
-    let read-field = c.read_field-width_found in
+    let read_field = c.read_field-width_found in
     let if2 = c.if-not-width_found in
     let file = c.args.file.now in
-    rw c.header_refused-then-not-height_found.ensures (lost_height file (sym begins-p4.ensures ∙ if1.false) read-field.ensures
+    rw c.header_refused-then-not-height_found.ensures (lost_height file (sym begins_p4.ensures ∙ if1.false) read_field.ensures
     (not-false _ if2.false) c.read_field-height_found.ensures (not-true _ c.if-not-height_found.true))
 
 pub is_white_at-requires : goal.is_white_at-requires
@@ -39,14 +39,14 @@ is_white_at-requires c = c.read_field-height_found.ensures.within
 
 pub returns-then-not-is_white_at : goal.returns-then-not-is_white_at
 returns-then-not-is_white_at c =
-    let begins-p4 = c.begins_p4 in
+    let begins_p4 = c.begins_p4 in
     let if1 = c.if-not-begins_p4 in
-    let read-field = c.read_field-width_found in
+    let read_field = c.read_field-width_found in
     let if2 = c.if-not-width_found in
-    let read-field2 = c.read_field-height_found in
+    let read_field2 = c.read_field-height_found in
     let file = c.args.file.now in
-    rw c.header_refused-then-not-is_white_at.ensures (lost_end file (sym begins-p4.ensures ∙ if1.false) read-field.ensures
-    (not-false _ if2.false) read-field2.ensures (not-false _ c.if-not-height_found.false)
+    rw c.header_refused-then-not-is_white_at.ensures (lost_end file (sym begins_p4.ensures ∙ if1.false) read_field.ensures
+    (not-false _ if2.false) read_field2.ensures (not-false _ c.if-not-height_found.false)
     (not-false _ (sym c.is_white_at.ensures ∙ c.if-not-is_white_at.true)))
 
 pub overflow_add-result : goal.overflow_add-result
@@ -54,13 +54,13 @@ overflow_add-result c = let w = c.read_field-height_found.ensures.within in omeg
 
 pub returns : goal.returns
 returns c =
-    let begins-p4 = c.begins_p4 in
+    let begins_p4 = c.begins_p4 in
     let if1 = c.if-not-begins_p4 in
-    let read-field = c.read_field-width_found in
+    let read_field = c.read_field-width_found in
     let if2 = c.if-not-width_found in
-    let read-field2 = c.read_field-height_found in
+    let read_field2 = c.read_field-height_found in
     let if3 = c.if-not-height_found in
     found_header c.args.file.now
-    (sym begins-p4.ensures ∙ if1.false) read-field.ensures (not-false _ if2.false) read-field2.ensures
+    (sym begins_p4.ensures ∙ if1.false) read_field.ensures (not-false _ if2.false) read_field2.ensures
     (not-false _ if3.false) (not-true _ (sym c.is_white_at.ensures ∙ c.if-not-is_white_at.false))
     c.frame_refusal-refusal.result c.frame_refusal-refusal.ensures _ (omega arith)

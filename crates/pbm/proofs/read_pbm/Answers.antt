@@ -25,36 +25,36 @@ raster_refusal-refusal-requires c =
 pub returns-then-refusal-ne0-2 : goal.returns-then-refusal-ne0-2
 returns-then-refusal-ne0-2 c =
     let args = c.args in
-    let read-header = c.read_header-header in
+    let read_header = c.read_header-header in
     let if1 = c.if-refusal-ne0 in
-    let raster-refusal = c.raster_refusal-refusal in
+    let raster_refusal = c.raster_refusal-refusal in
     rw c.read_refused-then-refusal-ne0-2.ensures
-    (raster_refuses args.file.now args.out.now read-header.ensures if1.false raster-refusal.ensures
+    (raster_refuses args.file.now args.out.now read_header.ensures if1.false raster_refusal.ensures
     c.if-refusal-ne0-2.true)
 
 pub overflow_sub-file : goal.overflow_sub-file
 overflow_sub-file c =
     let args = c.args in
-    let read-header = c.read_header-header in
+    let read_header = c.read_header-header in
     let if1 = c.if-refusal-ne0 in
-    at_within args.file.now args.out.now read-header.ensures if1.false
+    at_within args.file.now args.out.now read_header.ensures if1.false
 
 pub returns-then-out-file : goal.returns-then-out-file
 returns-then-out-file c =
     let args = c.args in
-    let read-header = c.read_header-header in
+    let read_header = c.read_header-header in
     let if1 = c.if-refusal-ne0 in
-    let raster-refusal = c.raster_refusal-refusal in
+    let raster_refusal = c.raster_refusal-refusal in
     rw c.read_refused-then-out-file.ensures
-    (room_refuses args.file.now args.out.now read-header.ensures if1.false raster-refusal.ensures
+    (room_refuses args.file.now args.out.now read_header.ensures if1.false raster_refusal.ensures
     c.if-refusal-ne0-2.false c.if-out-file.true)
 
 pub slice_bounds-copy_cleared-count : goal.slice_bounds-copy_cleared-count
 slice_bounds-copy_cleared-count c =
     let args = c.args in
-    let read-header = c.read_header-header in
+    let read_header = c.read_header-header in
     let if1 = c.if-refusal-ne0 in
-    at_within args.file.now args.out.now read-header.ensures if1.false
+    at_within args.file.now args.out.now read_header.ensures if1.false
 
 pub slice_bounds-copy_cleared-start : goal.slice_bounds-copy_cleared-start
 slice_bounds-copy_cleared-start c = slice_bounds-copy_cleared-count c
@@ -62,19 +62,19 @@ slice_bounds-copy_cleared-start c = slice_bounds-copy_cleared-count c
 pub copy_cleared-requires : goal.copy_cleared-requires
 copy_cleared-requires c =
     let args = c.args in
-    let read-header = c.read_header-header in
+    let read_header = c.read_header-header in
     let if1 = c.if-refusal-ne0 in
-    let raster-refusal = c.raster_refusal-refusal in
+    let raster_refusal = c.raster_refusal-refusal in
     let if2 = c.if-refusal-ne0-2 in
-    let f = frame_in args.file.now args.out.now read-header.ensures if1.false in (
+    let f = frame_in args.file.now args.out.now read_header.ensures if1.false in (
       f.0,
       (
         f.1,
         (
-          copy_there args.file.now args.out.now read-header.ensures if1.false
-              raster-refusal.ensures if2.false,
-          copy_room args.file.now args.out.now read-header.ensures if1.false
-              raster-refusal.ensures if2.false c.if-out-file.false,
+          copy_there args.file.now args.out.now read_header.ensures if1.false
+              raster_refusal.ensures if2.false,
+          copy_room args.file.now args.out.now read_header.ensures if1.false
+              raster_refusal.ensures if2.false c.if-out-file.false,
         ),
       ),
     )
@@ -82,11 +82,11 @@ copy_cleared-requires c =
 pub returns : goal.returns
 returns c =
     let args = c.args in
-    let read-header = c.read_header-header in
+    let read_header = c.read_header-header in
     let if1 = c.if-refusal-ne0 in
-    let raster-refusal = c.raster_refusal-refusal in
+    let raster_refusal = c.raster_refusal-refusal in
     let if2 = c.if-refusal-ne0-2 in
     let if3 = c.if-out-file in
-    let copy-cleared = c.copy_cleared in
-    read_accepts args.file.now args.out.now read-header.ensures if1.false
-    raster-refusal.ensures if2.false if3.false copy-cleared.ensures
+    let copy_cleared = c.copy_cleared in
+    read_accepts args.file.now args.out.now read_header.ensures if1.false
+    raster_refusal.ensures if2.false if3.false copy_cleared.ensures

@@ -10,14 +10,14 @@ loop-i-init c = skipping_start is_white c.args.file.now c.args.at c.requires
 pub returns-then-not-is_white : goal.returns-then-not-is_white
 returns-then-not-is_white c =
     let loop = c.loop-i in
-    let loop-test = c.loop-i-test in
-    skipping_stop loop.invariant loop-test.true (sym c.is_white.ensures ∙ c.if-not-is_white.true)
+    let loop_test = c.loop-i-test in
+    skipping_stop loop.invariant loop_test.true (sym c.is_white.ensures ∙ c.if-not-is_white.true)
 
 pub loop-i-preserved : goal.loop-i-preserved
 loop-i-preserved c =
     let loop = c.loop-i in
-    let loop-test = c.loop-i-test in
-    skipping_turn loop.invariant loop-test.true (sym c.is_white.ensures ∙ c.if-not-is_white.false)
+    let loop_test = c.loop-i-test in
+    skipping_turn loop.invariant loop_test.true (sym c.is_white.ensures ∙ c.if-not-is_white.false)
 
 pub returns : goal.returns
 returns c = skipping_end c.loop-i.invariant c.loop-i-test.false

@@ -5,28 +5,28 @@ use Rattle.pgm.proofs.levels_length.Goals as goal
 pub overflow_add-sum : goal.overflow_add-sum
 overflow_add-sum c =
     let loop = c.loop-i in
-    let loop-test = c.loop-i-test in
+    let loop_test = c.loop-i-test in
     let wide = c.wide in
-    let t = (summing_turn loop.invariant wide.result c.digit_count.result loop-test.true wide.ensures
+    let t = (summing_turn loop.invariant wide.result c.digit_count.result loop_test.true wide.ensures
     c.digit_count.ensures).0 in
     omega arith
 
 pub overflow_add-sum-in-loop-i : goal.overflow_add-sum-in-loop-i
 overflow_add-sum-in-loop-i c =
     let loop = c.loop-i in
-    let loop-test = c.loop-i-test in
+    let loop_test = c.loop-i-test in
     let wide = c.wide in
     let turn = loop in
-    let t = (summing_turn turn.invariant wide.result c.digit_count.result loop-test.true wide.ensures
+    let t = (summing_turn turn.invariant wide.result c.digit_count.result loop_test.true wide.ensures
     c.digit_count.ensures).0 in
     let b = loop.invariant.bounded in omega arith
 
 pub loop-i-preserved : goal.loop-i-preserved
 loop-i-preserved c =
     let loop = c.loop-i in
-    let loop-test = c.loop-i-test in
+    let loop_test = c.loop-i-test in
     let wide = c.wide in
-    (summing_turn loop.invariant wide.result c.digit_count.result loop-test.true wide.ensures
+    (summing_turn loop.invariant wide.result c.digit_count.result loop_test.true wide.ensures
     c.digit_count.ensures).1
 
 pub returns : goal.returns

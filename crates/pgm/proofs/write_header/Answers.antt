@@ -13,14 +13,14 @@ pub write_sizes-requires : goal.write_sizes-requires
 write_sizes-requires c =
     let args = c.args in
     let pre = c.requires in
-    let write-remark = c.write_remark-next in
+    let write_remark = c.write_remark-next in
     header_second args.magic.now args.done args.due args.width args.height args.maximum args.at
-    args.out.now pre write-remark.ensures
+    args.out.now pre write_remark.ensures
 
 pub returns : goal.returns
 returns c =
     let args = c.args in
     let pre = c.requires in
-    let write-remark = c.write_remark-next in
+    let write_remark = c.write_remark-next in
     header_wrote args.magic.now args.done args.due args.width args.height args.maximum args.at
-    args.out.now pre write-remark.ensures c.write_sizes.ensures
+    args.out.now pre write_remark.ensures c.write_sizes.ensures

@@ -22,16 +22,16 @@ pub write_row-end-requires : goal.write_row-end-requires
 write_row-end-requires c =
     let pre = c.requires in
     let loop = c.loop-i in
-    let loop-test = c.loop-i-test in
+    let loop_test = c.loop-i-test in
     let turn = loop in
-    (levels_row turn.invariant pre.0 loop-test.true, levels_room turn.invariant loop-test.true)
+    (levels_row turn.invariant pre.0 loop_test.true, levels_room turn.invariant loop_test.true)
 
 pub loop-i-preserved : goal.loop-i-preserved
 loop-i-preserved c =
     let loop = c.loop-i in
-    let loop-test = c.loop-i-test in
+    let loop_test = c.loop-i-test in
     let row = c.write_row-end in
-    levels_turn loop.invariant row.new.out row.result loop-test.true row.ensures
+    levels_turn loop.invariant row.new.out row.result loop_test.true row.ensures
 
 pub shape_of-out : goal.shape_of-out
 shape_of-out c = levels_same c.loop-i.invariant

@@ -8,8 +8,8 @@ pub returns : goal.returns
 returns c =
     let args = c.args in
     let pre = c.requires in
-    let write-number = c.write_number-next in
-    let number = write-number in
+    let write_number = c.write_number-next in
+    let number = write_number in
     wrote_parted args.level args.column args.at args.out.now number.new.out number.result
     c.parting_byte-byte.result pre.1
     (wrote_number args.level (args.at + 1) args.out.now number.new.out number.result number.ensures)

@@ -4,9 +4,8 @@ use Rattle.pgm.proofs.write_remark.Goals as goal
 
 pub write_bytes-next-requires : goal.write_bytes-next-requires
 write_bytes-next-requires c =
-    let start = c in
-    remark_first start.args.magic.now start.args.done start.args.due start.args.at start.args.out.now
-    start.requires
+    remark_first c.args.magic.now c.args.done c.args.due c.args.at c.args.out.now
+    c.requires
 
 pub write_pair-requires : goal.write_pair-requires
 write_pair-requires c =

@@ -5,8 +5,7 @@ use lib.ListN.{length-set}
 use Rattle.pgm.proofs.write_rest.Goals as goal
 
 pub loop-i-init : goal.loop-i-init
-loop-i-init c = let s = c in
-    rest_start s.args.rest.now s.args.start s.args.at s.args.out.now s.requires.0 s.requires.1
+loop-i-init c = rest_start c.args.rest.now c.args.start c.args.at c.args.out.now c.requires.0 c.requires.1
 
 pub write_parted-next-requires : goal.write_parted-next-requires
 write_parted-next-requires c =
@@ -19,13 +18,13 @@ write_parted-next-requires c =
 pub loop-i-preserved : goal.loop-i-preserved
 loop-i-preserved c =
     let loop = c.loop-i in
-    let loop-test = c.loop-i-test in
+    let loop_test = c.loop-i-test in
     let wide = c.wide in
-    let write-parted = c.write_parted-next in
+    let write_parted = c.write_parted-next in
     let widened = wide in
-    let parted = write-parted in
+    let parted = write_parted in
     rest_turn loop.invariant widened.result parted.new.out parted.result c.column_after-column.result
-    widened.ensures.0 loop-test.true parted.ensures c.column_after-column.ensures
+    widened.ensures.0 loop_test.true parted.ensures c.column_after-column.ensures
 
 pub bounds-out-end : goal.bounds-out-end
 bounds-out-end c = rest_last c.loop-i.invariant c.loop-i-test.false

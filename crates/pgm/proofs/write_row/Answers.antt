@@ -15,9 +15,9 @@ write_rest-requires c =
     let args = c.args in
     let pre = c.requires in
     let wide = c.wide in
-    let write-number = c.write_number-next in
+    let write_number = c.write_number-next in
     let widened = wide in
-    let number = write-number in
+    let number = write_number in
     row_rest args.row.now widened.result args.at args.out.now pre.0 widened.ensures.0 pre.1
     (wrote_number widened.result args.at args.out.now number.new.out number.result number.ensures)
 
@@ -26,9 +26,9 @@ returns c =
     let args = c.args in
     let pre = c.requires in
     let wide = c.wide in
-    let write-number = c.write_number-next in
+    let write_number = c.write_number-next in
     let widened = wide in
-    let number = write-number in
+    let number = write_number in
     row_wrote args.row.now widened.result args.at args.out.now pre.0 widened.ensures.0 pre.1
     (wrote_number widened.result args.at args.out.now number.new.out number.result number.ensures)
     c.write_rest.ensures

@@ -13,14 +13,14 @@ pub write_maximum-requires : goal.write_maximum-requires
 write_maximum-requires c =
     let args = c.args in
     let pre = c.requires in
-    let write-pair = c.write_pair-next in
+    let write_pair = c.write_pair-next in
     room_second (sides_piece args.width args.height) (maximum_piece args.maximum) args.at args.out.now pre
-    write-pair.ensures
+    write_pair.ensures
 
 pub returns : goal.returns
 returns c =
     let args = c.args in
     let pre = c.requires in
-    let write-pair = c.write_pair-next in
+    let write_pair = c.write_pair-next in
     wrote_both (sides_piece args.width args.height) (maximum_piece args.maximum) args.at args.out.now pre
-    write-pair.ensures c.write_maximum.ensures
+    write_pair.ensures c.write_maximum.ensures

@@ -16,9 +16,9 @@ pub returns-then-count-gt-MOST_PIXELS : goal.returns-then-count-gt-MOST_PIXELS
 returns-then-count-gt-MOST_PIXELS c =
     let args = c.args in
     let if1 = c.if-count-gt-MOST_PIXELS in
-    let write-refused = c.write_refused in
-    prints_as write-refused.result write-refused.new.out
-    (too_many args.width args.height args.sheet.now if1.true) write-refused.ensures
+    let write_refused = c.write_refused in
+    prints_as write_refused.result write_refused.new.out
+    (too_many args.width args.height args.sheet.now if1.true) write_refused.ensures
 
 pub slice_bounds-print_levels-end-2 : goal.slice_bounds-print_levels-end-2
 slice_bounds-print_levels-end-2 c =

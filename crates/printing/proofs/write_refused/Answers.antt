@@ -10,13 +10,11 @@ write_labelled-end-requires c =
 
 pub write_bytes-requires : goal.write_bytes-requires
 write_bytes-requires c =
-    let start = c in
-    let write-labelled = c.write_labelled-end in
-    end_room start.args.number start.args.out.now start.requires write-labelled.ensures
+    let write_labelled = c.write_labelled-end in
+    end_room c.args.number c.args.out.now c.requires write_labelled.ensures
 
 pub returns : goal.returns
 returns c =
-    let start = c in
-    let write-labelled = c.write_labelled-end in
-    refused_prints start.args.number start.args.out.now start.requires write-labelled.ensures
+    let write_labelled = c.write_labelled-end in
+    refused_prints c.args.number c.args.out.now c.requires write_labelled.ensures
     c.write_bytes.ensures

@@ -13,11 +13,10 @@ the_area width rows beyond cells = record { width = width; height = rows; beyond
 pub returns-then-cells-k-eq0 : goal.returns-then-cells-k-eq0
 unfolding cell_number
 returns-then-cells-k-eq0 c =
-    let start = c in
     let args = c.args in
-    let slice-known = c.slice_known-1 in
+    let slice_known = c.slice_known-1 in
     pass_unset (the_area c.args.width c.args.rows c.args.beyond c.args.cells) args.row args.k args.part.now args.worked.now c.if-cells-k-eq0.true
-    (λ i. (slice-known.given i).fits)
+    (λ i. (slice_known.given i).fits)
 
 pub overflow_sub-met : goal.overflow_sub-met
 overflow_sub-met c =
@@ -35,14 +34,13 @@ by_columns-requires c =
 pub returns-then-inside : goal.returns-then-inside
 unfolding cell_number
 returns-then-inside c =
-    let earlier = c in
-    let args = earlier.args in
+    let args = c.args in
     let if1 = c.if-cells-k-eq0 in
     let inside = c.inside in
     let if2 = c.if-inside in
-    let by-columns = c.by_columns in
+    let by_columns = c.by_columns in
     pass_in (the_area c.args.width c.args.rows c.args.beyond c.args.cells) args.row args.k args.part.now args.worked.now _ if1.false
-    (sym inside.ensures ∙ if2.true) by-columns.ensures
+    (sym inside.ensures ∙ if2.true) by_columns.ensures
 
 pub lower_to-requires : goal.lower_to-requires
 lower_to-requires c = omega arith
@@ -50,11 +48,10 @@ lower_to-requires c = omega arith
 pub returns : goal.returns
 unfolding cell_number
 returns c =
-    let earlier = c in
-    let args = earlier.args in
+    let args = c.args in
     let if1 = c.if-cells-k-eq0 in
     let inside = c.inside in
     let if2 = c.if-inside in
-    let lower-to = c.lower_to in
+    let lower_to = c.lower_to in
     pass_beyond (the_area c.args.width c.args.rows c.args.beyond c.args.cells) args.row args.k args.part.now args.worked.now _ if1.false
-    (sym inside.ensures ∙ if2.false) lower-to.ensures
+    (sym inside.ensures ∙ if2.false) lower_to.ensures

@@ -13,8 +13,8 @@ the_area width rows beyond cells = record { width = width; height = rows; beyond
 pub loop-n-init : goal.loop-n-init
 unfolding least
 loop-n-init c =
-    let slice-known = c.slice_known-1 in
-    (omega arith, pass_none _ _ _ (λ i. (slice-known.given i).fits))
+    let slice_known = c.slice_known-1 in
+    (omega arith, pass_none _ _ _ (λ i. (slice_known.given i).fits))
 
 pub overflow_add-first : goal.overflow_add-first
 overflow_add-first c =
@@ -23,21 +23,19 @@ overflow_add-first c =
     omega arith
 
 pub by_cell-requires : goal.by_cell-requires
-by_cell-requires c =
-    let start = c in (
-      start.requires.0,
-      (start.requires.1.0, (rw c.loop-n.invariant.1.size start.requires.1.1.0, (start.requires.1.1.1, (rw c.first_other-first.ensures (other_cells _ c.loop-n.n c.loop-n-test.true))))),
-    )
+by_cell-requires c = (
+  c.requires.0,
+  (c.requires.1.0, (rw c.loop-n.invariant.1.size c.requires.1.1.0, (c.requires.1.1.1, (rw c.first_other-first.ensures (other_cells _ c.loop-n.n c.loop-n-test.true))))),
+)
 
 pub loop-n-preserved : goal.loop-n-preserved
 loop-n-preserved c =
-    let start = c in
     let args = c.args in
     let loop = c.loop-n in
-    let by-cell = c.by_cell in (
+    let by_cell = c.by_cell in (
       omega arith,
-      pass_cell (the_area c.args.width c.args.rows c.args.beyond c.args.cells) args.row _ loop.n args.part.now args.worked.now loop.worked by-cell.new.worked
-          loop.invariant.1 by-cell.ensures,
+      pass_cell (the_area c.args.width c.args.rows c.args.beyond c.args.cells) args.row _ loop.n args.part.now args.worked.now loop.worked by_cell.new.worked
+          loop.invariant.1 by_cell.ensures,
     )
 
 pub shape_of-worked : goal.shape_of-worked
@@ -45,7 +43,7 @@ shape_of-worked c = c.loop-n.invariant.1.size
 
 pub returns : goal.returns
 returns c =
-    let first-other = c.first_other-first in
+    let first_other = c.first_other-first in
     let loop = c.loop-n in
     let all : 21 ≡ loop.n = omega arith in
-    rw (all, ← first-other.ensures) loop.invariant.1
+    rw (all, ← first_other.ensures) loop.invariant.1

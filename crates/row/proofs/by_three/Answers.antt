@@ -14,32 +14,31 @@ loop-t-init c =
 pub lower_to_least-level-requires : goal.lower_to_least-level-requires
 lower_to_least-level-requires c =
     let args = c.args in
-    let loop-test = c.loop-t-test in
+    let loop_test = c.loop-t-test in
     let column = c.column in
-    let in_row : column.result < args.width = rw column.ensures (place_below _ _ _ loop-test.true) in
+    let in_row : column.result < args.width = rw column.ensures (place_below _ _ _ loop_test.true) in
     omega arith
 
 pub loop-t-preserved : goal.loop-t-preserved
 loop-t-preserved c =
-    let earlier = c in
-    let args = earlier.args in
-    let step-of3 = c.step_of-from_far in
+    let args = c.args in
+    let step_of3 = c.step_of-from_far in
     let loop = c.loop-t in
     let column = c.column in
-    let lower-to-least = c.lower_to_least-level in
+    let lower_to_least = c.lower_to_least-level in
     let lowest = rw (
       column.ensures,
-      earlier.step_of-from_near.ensures.0,
-      earlier.step_of-from_middle.ensures.0,
-      step-of3.ensures.0,
-    ) at lower-to-least.ensures in (
+      c.step_of-from_near.ensures.0,
+      c.step_of-from_middle.ensures.0,
+      step_of3.ensures.0,
+    ) at lower_to_least.ensures in (
       omega arith,
       (
-        lower-to-least.auto.worked ∙ loop.invariant.1.0,
+        lower_to_least.auto.worked ∙ loop.invariant.1.0,
         (
           (loop.invariant.1.1.1.small, loop.invariant.1.1.0.0),
           kept_turn args.upward args.width args.beyond args.one args.two args.three loop.t loop.near
-              loop.middle loop.far lower-to-least.result args.worked.now loop.worked lower-to-least.new.worked
+              loop.middle loop.far lower_to_least.result args.worked.now loop.worked lower_to_least.new.worked
               (omega arith) (omega arith) loop.invariant.1.1.1 lowest,
         ),
       ),

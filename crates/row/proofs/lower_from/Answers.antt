@@ -8,8 +8,7 @@ loop-i-init c = (search rules, put_start _ _ _)
 
 pub loop-i-preserved : goal.loop-i-preserved
 loop-i-preserved c =
-    let earlier = c in
-    let args = earlier.args in
+    let args = c.args in
     let loop = c.loop-i in
     let one_more = c.one_more in
     let lower = c.lower in (

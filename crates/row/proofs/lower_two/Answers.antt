@@ -11,11 +11,11 @@ use Rattle.row.specs.RowRule.{none}
 use Rattle.row.specs.Passes.{TwoLowest}
 use Rattle.row.proofs.lower_two.Goals as goal
 
-two-lowest : (levels : List ℕ) (first second near middle level : ℕ) → first ≢ second → get_or levels first 0 ≤ none
+two_lowest : (levels : List ℕ) (first second near middle level : ℕ) → first ≢ second → get_or levels first 0 ≤ none
     → get_or levels second 0 ≤ none → middle ≡ min (get_or levels first 0) (near + 1)
     → level ≡ min (min (get_or levels second 0) (get_or levels first 0 + 1)) (near + 2)
     → TwoLowest levels (set (set levels first middle) second level) first second near level
-two-lowest levels first second near middle level apart a b p q =
+two_lowest levels first second near middle level apart a b p q =
     let stays : get_or (set levels first middle) second 0 ≡ get_or levels second 0 =
     get_or-set_other levels first second middle 0 (λ e. apart (sym e)) in
     record {
@@ -27,10 +27,9 @@ two-lowest levels first second near middle level apart a b p q =
 
 pub returns : goal.returns
 returns c =
-    let earlier = c in
-    let args = earlier.args in
-    let lesser-wide2 = c.lesser_wide-level in
-    let lesser-wide3 = c.lesser_wide in
+    let args = c.args in
+    let lesser_wide2 = c.lesser_wide-level in
+    let lesser_wide3 = c.lesser_wide in
     rw (c.narrow.ensures, c.narrow-2.ensures)
-    (two-lowest args.worked.now args.first args.second args.near lesser-wide3.result lesser-wide2.result
-    earlier.requires.1.1.0 (omega arith) (omega arith) (omega arith) (omega arith))
+    (two_lowest args.worked.now args.first args.second args.near lesser_wide3.result lesser_wide2.result
+    c.requires.1.1.0 (omega arith) (omega arith) (omega arith) (omega arith))

@@ -12,58 +12,46 @@ the_area width rows beyond cells = record { width = width; height = rows; beyond
 
 pub overflow_mul-row : goal.overflow_mul-row
 overflow_mul-row c =
-    let start = c in
     omega (arith, row_end c.args.width c.args.row c.args.rows c.requires.1.0)
 
 pub take_row-requires : goal.take_row-requires
 take_row-requires c =
-    let start = c in
-    (start.requires.1.1.1.1, (rw start.requires.0 (row_end start.args.width start.args.row start.args.rows start.requires.1.0)))
+    (c.requires.1.1.1.1, (rw c.requires.0 (row_end c.args.width c.args.row c.args.rows c.requires.1.0)))
 
 pub by_other_rows-requires : goal.by_other_rows-requires
 by_other_rows-requires c =
-    let start = c in
     let take_row = c.take_row in (
-      start.requires.0,
-      (start.requires.1.0, (rw take_row.auto.worked start.requires.1.1.1.1, start.requires.1.1.1.0)),
+      c.requires.0,
+      (c.requires.1.0, (rw take_row.auto.worked c.requires.1.1.1.1, c.requires.1.1.1.0)),
     )
 
 pub by_own_row-requires : goal.by_own_row-requires
 by_own_row-requires c =
-    let earlier = c in
-    let start = earlier in
     let take_row = c.take_row in
-    let by-other-rows = c.by_other_rows in
-    rw (by-other-rows.auto.worked, take_row.auto.worked) start.requires.1.1.1.1
+    let by_other_rows = c.by_other_rows in
+    rw (by_other_rows.auto.worked, take_row.auto.worked) c.requires.1.1.1.1
 
 pub overflow_mul-row-2 : goal.overflow_mul-row-2
 overflow_mul-row-2 c =
-    let earlier = c in
-    let start = earlier in
     omega (arith, row_end c.args.width c.args.row c.args.rows c.requires.1.0)
 
 pub settle-requires : goal.settle-requires
 settle-requires c =
-    let earlier = c in
-    let start = earlier in
-    let take_row = earlier.take_row in
-    let by-other-rows = c.by_other_rows in
-    let by-own-row = c.by_own_row in (
-      (rw start.requires.0 (row_end start.args.width start.args.row start.args.rows start.requires.1.0)),
-      (rw (by-own-row.auto.worked, by-other-rows.auto.worked, take_row.auto.worked) start.requires.1.1.1.1, start.requires.1.1.0),
+    let take_row = c.take_row in
+    let by_other_rows = c.by_other_rows in
+    let by_own_row = c.by_own_row in (
+      (rw c.requires.0 (row_end c.args.width c.args.row c.args.rows c.requires.1.0)),
+      (rw (by_own_row.auto.worked, by_other_rows.auto.worked, take_row.auto.worked) c.requires.1.1.1.1, c.requires.1.1.0),
     )
 
 pub returns : goal.returns
 returns c =
-    let earlier = c in
-    let before-that = earlier in
-    let start = before-that in
-    let args = before-that.args in
-    let take_row = earlier.take_row in
-    let by-other-rows = earlier.by_other_rows in
-    let by-own-row = c.by_own_row in
+    let args = c.args in
+    let take_row = c.take_row in
+    let by_other_rows = c.by_other_rows in
+    let by_own_row = c.by_own_row in
     let settle = c.settle in (
-      whole (the_area c.args.width c.args.rows c.args.beyond c.args.cells) args.upward args.row start.requires.1.0 args.part.now args.worked.now _ _ _ (rw start.requires.0 (row_end start.args.width start.args.row start.args.rows start.requires.1.0))
-          start.requires.1.1.1.1 take_row.ensures by-other-rows.ensures (rw (← by-own-row.ensures) settle.ensures.0),
+      whole (the_area c.args.width c.args.rows c.args.beyond c.args.cells) args.upward args.row c.requires.1.0 args.part.now args.worked.now _ _ _ (rw c.requires.0 (row_end c.args.width c.args.row c.args.rows c.requires.1.0))
+          c.requires.1.1.1.1 take_row.ensures by_other_rows.ensures (rw (← by_own_row.ensures) settle.ensures.0),
       settle.ensures.1,
     )

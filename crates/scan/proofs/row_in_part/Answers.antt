@@ -11,29 +11,27 @@ use Rattle.scan.proofs.row_in_part.Goals as goal
 
 pub row_rule-requires : goal.row_rule-requires
 row_rule-requires c =
-    let start = c in
-    let h = start.requires.0.high in (
-      part_size _ _ _ _ start.requires.0 (omega arith),
-      (omega arith, (start.requires.0.wide.1, (omega arith, omega (arith, start.requires.0.wide.1)))),
+    let h = c.requires.0.high in (
+      part_size _ _ _ _ c.requires.0 (omega arith),
+      (omega arith, (c.requires.0.wide.1, (omega arith, omega (arith, c.requires.0.wide.1)))),
     )
 
 pub shape_of-levels : goal.shape_of-levels
 shape_of-levels c =
     let args = c.args in
-    let row-rule = c.row_rule in
+    let row_rule = c.row_rule in
     same_len_mid (args.start * args.width) (length args.levels.now - args.start * args.width) args.levels.now
-    row-rule.new.part row-rule.auto.part
+    row_rule.new.part row_rule.auto.part
 
 pub returns : goal.returns
 returns c =
     let args = c.args in
-    let start = c in
     let row-rule = c.row_rule in (
       lent_part (args.start * args.width) args.levels.now row-rule.new.part
           (row_rule (area args.width (args.height - args.start) args.beyond args.cells) args.upward
           (args.row - args.start)) row-rule.ensures.0
           ∙ sym (row_of_part args.width args.height args.beyond args.cells args.upward args.start args.row
-          args.levels.now start.requires.0 start.requires.1.1.0 start.requires.1.1.1.0 start.requires.1.1.1.1),
+          args.levels.now c.requires.0 c.requires.1.1.0 c.requires.1.1.1.0 c.requires.1.1.1.1),
       row-rule.ensures.1 ∙ lent_lowered (args.start * args.width) args.levels.now row-rule.new.part,
     )
 

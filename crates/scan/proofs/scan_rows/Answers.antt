@@ -28,26 +28,24 @@ slice_bounds-scan_row-end c =
 pub scan_row-lowered-requires : goal.scan_row-lowered-requires
 scan_row-lowered-requires c =
     let args = c.args in
-    let start = c in
     let loop = c.loop-n in (
       rw loop.invariant.1.1.0 (lent_rows args.width args.height args.beyond args.cells args.done loop.n
-          args.levels.now start.requires.0),
-      (loop.invariant.1.0, (omega arith, start.requires.1.1)),
+          args.levels.now c.requires.0),
+      (loop.invariant.1.0, (omega arith, c.requires.1.1)),
     )
 
 pub overflow_add-lowered : goal.overflow_add-lowered
 overflow_add-lowered c =
     let args = c.args in
-    let start = c in
     let loop = c.loop-n in
-    let scan-row = c.scan_row-lowered in
+    let scan_row = c.scan_row-lowered in
     let scanned = area args.width args.height args.beyond args.cells in
-    let small = lent_small args.width args.height args.levels.now start.requires.0 in
+    let small = lent_small args.width args.height args.levels.now c.requires.0 in
     let before = lowered_bound scanned args.done loop.n 16777216 args.levels.now small in
-    let now = lowered_most loop.levels scan-row.new.levels in
+    let now = lowered_most loop.levels scan_row.new.levels in
     let same = ap length loop.invariant.1.1.0 ∙ rows_length scanned args.done loop.n args.levels.now in
-    let high = start.requires.0.high.1 in
-    omega (arith, before, now, same, small, scan-row.ensures.1, loop.invariant.1.1.1)
+    let high = c.requires.0.high.1 in
+    omega (arith, before, now, same, small, scan_row.ensures.1, loop.invariant.1.1.1)
 
 pub loop-n-preserved : goal.loop-n-preserved
 loop-n-preserved c =

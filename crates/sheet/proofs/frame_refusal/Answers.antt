@@ -10,13 +10,13 @@ returns-then-is_side_out c = refuse_width c.args.width c.args.height
 pub returns-then-is_side_out-2 : goal.returns-then-is_side_out-2
 returns-then-is_side_out-2 c =
     let args = c.args in
-    let is-side-out = c.is_side_out in
-    refuse_height args.width args.height (sym is-side-out.ensures ∙ c.if-is_side_out.false)
+    let is_side_out = c.is_side_out in
+    refuse_height args.width args.height (sym is_side_out.ensures ∙ c.if-is_side_out.false)
     (sym c.is_side_out-2.ensures ∙ c.if-is_side_out-2.true)
 
 pub returns : goal.returns
 returns c =
     let args = c.args in
-    let is-side-out = c.is_side_out in
-    accept_frame args.width args.height (sym is-side-out.ensures ∙ c.if-is_side_out.false)
+    let is_side_out = c.is_side_out in
+    accept_frame args.width args.height (sym is_side_out.ensures ∙ c.if-is_side_out.false)
     (sym c.is_side_out-2.ensures ∙ c.if-is_side_out-2.false)

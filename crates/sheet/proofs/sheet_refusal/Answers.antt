@@ -26,13 +26,13 @@ overflow_mul-height c =
 pub returns-then-sheet-height : goal.returns-then-sheet-height
 returns-then-sheet-height c =
     let args = c.args in
-    let frame-refusal = c.frame_refusal-refusal in
-    refuse_bytes args.width args.height args.sheet.now (sym frame-refusal.ensures ∙ c.if-refusal-ne0.false)
+    let frame_refusal = c.frame_refusal-refusal in
+    refuse_bytes args.width args.height args.sheet.now (sym frame_refusal.ensures ∙ c.if-refusal-ne0.false)
     (λ e. c.if-sheet-height.true (e ∙ ap (λ n. args.height * n) (sym c.row_bytes.ensures)))
 
 pub returns : goal.returns
 returns c =
     let args = c.args in
-    let frame-refusal = c.frame_refusal-refusal in
-    accept_sheet args.width args.height args.sheet.now (sym frame-refusal.ensures ∙ c.if-refusal-ne0.false)
+    let frame_refusal = c.frame_refusal-refusal in
+    accept_sheet args.width args.height args.sheet.now (sym frame_refusal.ensures ∙ c.if-refusal-ne0.false)
     (c.if-sheet-height.false ∙ ap (λ n. args.height * n) c.row_bytes.ensures)

@@ -15,48 +15,39 @@ returns-then-refusal-ne0 c =
 
 pub first_run-run-requires : goal.first_run-run-requires
 first_run-run-requires c =
-    let judged = c in
-    let args = judged.args in
+    let args = c.args in
     let lent : Buffers = record { first = args.first.now; second = args.second.now; out = args.table.now } in
     opening_starts args.input args.sheet.now args.bytes.now lent
-    (sym judged.spectrum_refusal-refusal.ensures ∙ c.if-refusal-ne0.false) c.opening_plan.ensures
+    (sym c.spectrum_refusal-refusal.ensures ∙ c.if-refusal-ne0.false) c.opening_plan.ensures
 
 pub fill_table-requires : goal.fill_table-requires
 fill_table-requires c =
-    let ran = c in
-    let judged = ran in
-    let args = judged.args in
+    let args = c.args in
     let lent : Buffers = record { first = args.first.now; second = args.second.now; out = args.table.now } in
-    let accepted = sym judged.spectrum_refusal-refusal.ensures ∙ ran.if-refusal-ne0.false in
+    let accepted = sym c.spectrum_refusal-refusal.ensures ∙ c.if-refusal-ne0.false in
     let run = opening_run args.input args.sheet.now args.bytes.now lent accepted
-    ran.opening_plan.ensures ran.first_run-run.ensures in (
+    c.opening_plan.ensures c.first_run-run.ensures in (
       run_ready args.input args.sheet.now args.bytes.now lent accepted run,
       run_levels args.input args.sheet.now args.bytes.now lent accepted run,
     )
 
 pub summary_of-requires : goal.summary_of-requires
 summary_of-requires c =
-    let filled = c in
-    let ran = filled in
-    let judged = ran in
-    let args = judged.args in
+    let args = c.args in
     let lent : Buffers = record { first = args.first.now; second = args.second.now; out = args.table.now } in
-    let accepted = sym judged.spectrum_refusal-refusal.ensures ∙ ran.if-refusal-ne0.false in
+    let accepted = sym c.spectrum_refusal-refusal.ensures ∙ c.if-refusal-ne0.false in
     let run = opening_run args.input args.sheet.now args.bytes.now lent accepted
-    ran.opening_plan.ensures ran.first_run-run.ensures in
-    is_table args.input args.sheet.now args.bytes.now lent accepted run filled.fill_table.ensures.1
+    c.opening_plan.ensures c.first_run-run.ensures in
+    is_table args.input args.sheet.now args.bytes.now lent accepted run c.fill_table.ensures.1
 
 pub returns : goal.returns
 returns c =
-    let filled = c in
-    let ran = filled in
-    let judged = ran in
-    let args = judged.args in
+    let args = c.args in
     let lent : Buffers = record { first = args.first.now; second = args.second.now; out = args.table.now } in
-    let accepted = sym judged.spectrum_refusal-refusal.ensures ∙ ran.if-refusal-ne0.false in
+    let accepted = sym c.spectrum_refusal-refusal.ensures ∙ c.if-refusal-ne0.false in
     let run = opening_run args.input args.sheet.now args.bytes.now lent accepted
-    ran.opening_plan.ensures ran.first_run-run.ensures in
-    let fills = filled.fill_table.ensures in
+    c.opening_plan.ensures c.first_run-run.ensures in
+    let fills = c.fill_table.ensures in
     let cleared = c.clear_both.ensures in
     answered args.input args.sheet.now args.bytes.now lent accepted run fills.1
     cleared.0 (cleared.1 ∙ ap (λ n. replicate n 0) fills.0) c.summary_of.ensures

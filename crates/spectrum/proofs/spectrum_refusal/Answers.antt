@@ -13,12 +13,11 @@ returns-then-refusal-ne0 c =
 
 pub overflow_add-larger : goal.overflow_add-larger
 overflow_add-larger c =
-    let passed = c in
-    let args = passed.args in
+    let args = c.args in
     let work = judged_work args.input args.sheet.now args.bytes.now args.one args.two args.entries
-    passed.opening_plan-plan.ensures passed.work_refusal-refusal.ensures in
+    c.opening_plan-plan.ensures c.work_refusal-refusal.ensures in
     let j = work_judged args.input args.sheet.now args.bytes.now args.one args.two args.entries
-    (sym work ∙ passed.if-refusal-ne0.false) in
+    (sym work ∙ c.if-refusal-ne0.false) in
     let wide = j.wide in
     let high = j.high in
     let larger = c.larger.ensures in
@@ -26,41 +25,35 @@ overflow_add-larger c =
 
 pub returns-then-entries-larger : goal.returns-then-entries-larger
 returns-then-entries-larger c =
-    let passed = c in
-    let args = passed.args in
+    let args = c.args in
     let work = judged_work args.input args.sheet.now args.bytes.now args.one args.two args.entries
-    passed.opening_plan-plan.ensures passed.work_refusal-refusal.ensures in
+    c.opening_plan-plan.ensures c.work_refusal-refusal.ensures in
     refused_table args.input args.sheet.now args.bytes.now args.one args.two args.entries
-    (sym work ∙ passed.if-refusal-ne0.false) c.larger.ensures c.if-entries-larger.true
+    (sym work ∙ c.if-refusal-ne0.false) c.larger.ensures c.if-entries-larger.true
 
 pub is_blank-requires : goal.is_blank-requires
 is_blank-requires c =
-    let passed = c in
-    let args = passed.args in
+    let args = c.args in
     let work = judged_work args.input args.sheet.now args.bytes.now args.one args.two args.entries
-    passed.opening_plan-plan.ensures passed.work_refusal-refusal.ensures in
+    c.opening_plan-plan.ensures c.work_refusal-refusal.ensures in
     let j = work_judged args.input args.sheet.now args.bytes.now args.one args.two args.entries
-    (sym work ∙ passed.if-refusal-ne0.false) in
+    (sym work ∙ c.if-refusal-ne0.false) in
     (j.wide.1, (j.high.1, j.sheet_size_lem))
 
 pub returns-then-is_blank : goal.returns-then-is_blank
 returns-then-is_blank c =
-    let fitted = c in
-    let passed = fitted in
-    let args = passed.args in
+    let args = c.args in
     let work = judged_work args.input args.sheet.now args.bytes.now args.one args.two args.entries
-    passed.opening_plan-plan.ensures passed.work_refusal-refusal.ensures in
+    c.opening_plan-plan.ensures c.work_refusal-refusal.ensures in
     refused_blank args.input args.sheet.now args.bytes.now args.one args.two args.entries
-    (sym work ∙ passed.if-refusal-ne0.false) fitted.larger.ensures fitted.if-entries-larger.false
+    (sym work ∙ c.if-refusal-ne0.false) c.larger.ensures c.if-entries-larger.false
     (sym c.if-is_blank.true ∙ c.is_blank.ensures)
 
 pub returns : goal.returns
 returns c =
-    let fitted = c in
-    let passed = fitted in
-    let args = passed.args in
+    let args = c.args in
     let work = judged_work args.input args.sheet.now args.bytes.now args.one args.two args.entries
-    passed.opening_plan-plan.ensures passed.work_refusal-refusal.ensures in
+    c.opening_plan-plan.ensures c.work_refusal-refusal.ensures in
     none_refused args.input args.sheet.now args.bytes.now args.one args.two args.entries
-    (sym work ∙ passed.if-refusal-ne0.false) fitted.larger.ensures fitted.if-entries-larger.false
+    (sym work ∙ c.if-refusal-ne0.false) c.larger.ensures c.if-entries-larger.false
     (sym c.if-is_blank.false ∙ c.is_blank.ensures)

@@ -5,8 +5,7 @@ use Rattle.text.proofs.write_labelled.Goals as goal
 
 pub write_bytes-next-requires : goal.write_bytes-next-requires
 write_bytes-next-requires c =
-    let start = c in
-    room_first start.args.label.now (digits start.args.n) start.args.at start.args.out.now start.requires
+    room_first c.args.label.now (digits c.args.n) c.args.at c.args.out.now c.requires
 
 pub write_number-requires : goal.write_number-requires
 write_number-requires c =

@@ -15,14 +15,14 @@ pub write_labelled-requires : goal.write_labelled-requires
 write_labelled-requires c =
     let args = c.args in
     let pre = c.requires in
-    let write-labelled = c.write_labelled-next in
+    let write_labelled = c.write_labelled-next in
     room_second (args.before.now ++ digits args.first) (args.between.now ++ digits args.second) args.at
-    args.out.now pre write-labelled.ensures
+    args.out.now pre write_labelled.ensures
 
 pub returns : goal.returns
 returns c =
     let args = c.args in
     let pre = c.requires in
-    let write-labelled = c.write_labelled-next in
+    let write_labelled = c.write_labelled-next in
     wrote_both (args.before.now ++ digits args.first) (args.between.now ++ digits args.second) args.at
-    args.out.now pre write-labelled.ensures c.write_labelled.ensures
+    args.out.now pre write_labelled.ensures c.write_labelled.ensures

@@ -18,23 +18,16 @@ first_run-run-requires c =
 
 pub filter_levels-requires : goal.filter_levels-requires
 filter_levels-requires c =
-    let ran = c in
-    let judged = ran in
-    let entry = judged in
-    let args = entry.args in
+    let args = c.args in
     let lent : Buffers = record { first = args.first.now; second = args.second.now; out = args.out.now } in
     levels_ready args.input args.sheet.now args.bytes.now args.plan lent
-    (sym judged.filter_refusal-refusal.ensures ∙ ran.if-refusal-ne0.false) entry.requires ran.first_run-run.ensures
+    (sym c.filter_refusal-refusal.ensures ∙ c.if-refusal-ne0.false) c.requires c.first_run-run.ensures
 
 pub returns : goal.returns
 returns c =
-    let filtered = c in
-    let ran = filtered in
-    let judged = ran in
-    let entry = judged in
-    let args = entry.args in
-    let right = filtered.filter_levels.ensures in
+    let args = c.args in
+    let right = c.filter_levels.ensures in
     let lent : Buffers = record { first = args.first.now; second = args.second.now; out = args.out.now } in
     levels_answered args.input args.sheet.now args.bytes.now args.plan lent
-    (sym judged.filter_refusal-refusal.ensures ∙ ran.if-refusal-ne0.false) entry.requires ran.first_run-run.ensures _
+    (sym c.filter_refusal-refusal.ensures ∙ c.if-refusal-ne0.false) c.requires c.first_run-run.ensures _
     right.0 right.1.0 right.1.1

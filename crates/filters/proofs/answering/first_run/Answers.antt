@@ -4,16 +4,12 @@ use Rattle.filters.proofs.answering.first_run.Goals as goal
 
 pub finish-requires : goal.finish-requires
 finish-requires c =
-    let started = c in
-    let entry = started in
-    let args = entry.args in
-    first_fresh args.input args.sheet.now args.bytes.now args.levels.now args.plan entry.requires
-    started.start_run-run.ensures
+    let args = c.args in
+    first_fresh args.input args.sheet.now args.bytes.now args.levels.now args.plan c.requires
+    c.start_run-run.ensures
 
 pub returns : goal.returns
 returns c =
-    let started = c in
-    let entry = started in
-    let args = entry.args in
-    first_finished args.input args.sheet.now args.bytes.now args.levels.now args.plan entry.requires
-    started.start_run-run.ensures c.finish.ensures
+    let args = c.args in
+    first_finished args.input args.sheet.now args.bytes.now args.levels.now args.plan c.requires
+    c.start_run-run.ensures c.finish.ensures

@@ -4,17 +4,13 @@ use Rattle.filters.proofs.answering.start_run.Goals as goal
 
 pub returns-then-plan : goal.returns-then-plan
 returns-then-plan c =
-    let called = c in
-    let entry = called in
-    let args = entry.args in
-    let dilation = rw called.cap_of-cap.ensures at called.start_dilation-dilation.ensures in
-    dilation_begun args.input args.sheet.now args.bytes.now args.levels.now args.plan entry.requires
-    called.if-plan.true dilation
+    let args = c.args in
+    let dilation = rw c.cap_of-cap.ensures at c.start_dilation-dilation.ensures in
+    dilation_begun args.input args.sheet.now args.bytes.now args.levels.now args.plan c.requires
+    c.if-plan.true dilation
 
 pub returns : goal.returns
 returns c =
-    let called = c in
-    let entry = called in
-    let args = entry.args in
-    erosion_begun args.input args.sheet.now args.bytes.now args.levels.now args.plan entry.requires
-    called.if-plan.false called.start_erosion-erosion.ensures
+    let args = c.args in
+    erosion_begun args.input args.sheet.now args.bytes.now args.levels.now args.plan c.requires
+    c.if-plan.false c.start_erosion-erosion.ensures

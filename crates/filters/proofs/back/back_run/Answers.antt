@@ -5,6 +5,6 @@ use Rattle.filters.proofs.back.back_run.Goals as goal
 
 pub returns : goal.returns
 returns c =
-    let area-width = c.area_width-wide in
-    back_record c.args.run _ _ _ _ c.other_kind-kind.ensures area-width.ensures.0
+    let area_width = c.area_width-wide in
+    back_record c.args.run _ _ _ _ c.other_kind-kind.ensures area_width.ensures.0
     c.area_height-high.ensures.0 refl

@@ -5,8 +5,8 @@ use Rattle.filters.proofs.back.filter_sheet.Goals as goal
 
 pub returns : goal.returns
 returns c =
-    let sheet-back = c.sheet_back in
+    let sheet_back = c.sheet_back in
     let Clear-both = c.clear_both in (
       Clear-both.ensures.0,
-      (Clear-both.ensures.1 ∙ ap (λ n. replicate n 0) sheet-back.ensures.0, sheet-back.ensures.1),
+      (Clear-both.ensures.1 ∙ ap (λ n. replicate n 0) sheet_back.ensures.0, sheet_back.ensures.1),
     )

@@ -5,6 +5,5 @@ use Rattle.filters.proofs.back.find_size.Goals as goal
 
 pub returns : goal.returns
 returns c =
-    let entry = c in
     let back = c.way_back.ensures in
-    (after_back entry.args.size entry.requires.0 back, found_back entry.args.size back)
+    (after_back c.args.size c.requires.0 back, found_back c.args.size back)

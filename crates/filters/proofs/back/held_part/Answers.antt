@@ -13,8 +13,7 @@ below_held-low-requires c = rw c.back_run-other.ensures (omega arith, c.requires
 pub returns : goal.returns
 returns c =
     let args = c.args in
-    let start = c in
-    let back-run = c.back_run-other in
-    let margin-of = c.margin_of-margin in
-    held_part_is args.run back-run.result start.requires.0 back-run.ensures args.size start.requires.1
-    margin-of.ensures.0 c.below_held-low.ensures c.highest_held-high.ensures
+    let back_run = c.back_run-other in
+    let margin_of = c.margin_of-margin in
+    held_part_is args.run back_run.result c.requires.0 back_run.ensures args.size c.requires.1
+    margin_of.ensures.0 c.below_held-low.ensures c.highest_held-high.ensures

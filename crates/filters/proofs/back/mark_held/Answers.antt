@@ -9,18 +9,15 @@ back_run-other-requires c = c.requires.0.taken
 pub below_held-low-requires : goal.below_held-low-requires
 below_held-low-requires c =
     let args = c.args in
-    let start = c in
-    ((sound args.run start.requires.0.taken).cap_small, start.requires.1)
+    ((sound args.run c.requires.0.taken).cap_small, c.requires.1)
 
 pub returns : goal.returns
 returns c =
-    let earlier = c in
-    let args = earlier.args in
-    let start = earlier in
-    let back-run = c.back_run-other in
-    let below-held = c.below_held-low in
-    let highest-held = c.highest_held-high in
+    let args = c.args in
+    let back_run = c.back_run-other in
+    let below_held = c.below_held-low in
+    let highest_held = c.highest_held-high in
     let on_of = c.on_of-on in
     let off_of = c.off_of-off in
-    start_is args.run back-run.result start.requires.0.taken back-run.ensures args.size start.requires.1
-    below-held.ensures highest-held.ensures on_of.ensures off_of.ensures args.first.now c.mark.ensures
+    start_is args.run back_run.result c.requires.0.taken back_run.ensures args.size c.requires.1
+    below_held.ensures highest_held.ensures on_of.ensures off_of.ensures args.first.now c.mark.ensures

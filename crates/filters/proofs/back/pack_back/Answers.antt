@@ -4,8 +4,7 @@ use Rattle.filters.proofs.back.pack_back.Goals as goal
 
 pub pack_frame-requires : goal.pack_frame-requires
 pack_frame-requires c =
-    let entry = c in
-    (part_canvas entry.requires.0 entry.requires.1.0 c.held_part-part.ensures, entry.requires.1.1.1)
+    (part_canvas c.requires.0 c.requires.1.0 c.held_part-part.ensures, c.requires.1.1.1)
 
 pub returns : goal.returns
 returns c =

@@ -6,8 +6,7 @@ use Rattle.filters.proofs.back.way_back.Goals as goal
 
 pub finish-requires : goal.finish-requires
 finish-requires c =
-    let entry = c in
-    back_ready entry.args.size entry.requires.0 c.back_run.ensures
+    back_ready c.args.size c.requires.0 c.back_run.ensures
     c.mark_held.ensures
 
 pub returns : goal.returns

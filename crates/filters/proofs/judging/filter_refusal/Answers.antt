@@ -23,11 +23,10 @@ row_entries-requires c =
 
 pub overflow_mul-input : goal.overflow_mul-input
 overflow_mul-input c =
-    let passed = c in
-    let args = passed.args in
+    let args = c.args in
     let entries = c.row_entries in
     let w = work_taken args.input args.sheet.now args.bytes.now args.plan args.lent.first args.lent.second
-    (sym passed.work_refusal-refusal.ensures ∙ passed.if-refusal-ne0.false) in
+    (sym c.work_refusal-refusal.ensures ∙ c.if-refusal-ne0.false) in
     let t = start_taken args.input args.sheet.now args.bytes.now args.plan args.lent.first w.start in
     let j = judged args.input.width args.input.height args.sheet.now args.input.side args.bytes.now
     t.common in
@@ -36,16 +35,14 @@ overflow_mul-input c =
 
 pub returns-then-lent-input : goal.returns-then-lent-input
 returns-then-lent-input c =
-    let passed = c in
-    let args = passed.args in
+    let args = c.args in
     plan_out args.input args.sheet.now args.bytes.now args.plan args.lent
-    (sym passed.work_refusal-refusal.ensures ∙ passed.if-refusal-ne0.false) c.row_entries.ensures.0
+    (sym c.work_refusal-refusal.ensures ∙ c.if-refusal-ne0.false) c.row_entries.ensures.0
     c.if-lent-input.true
 
 pub returns : goal.returns
 returns c =
-    let passed = c in
-    let args = passed.args in
+    let args = c.args in
     plan_fits args.input args.sheet.now args.bytes.now args.plan args.lent
-    (sym passed.work_refusal-refusal.ensures ∙ passed.if-refusal-ne0.false) c.row_entries.ensures.0
+    (sym c.work_refusal-refusal.ensures ∙ c.if-refusal-ne0.false) c.row_entries.ensures.0
     c.if-lent-input.false

@@ -11,14 +11,12 @@ returns-then-refusal-ne0 c =
 
 pub returns-then-second-count : goal.returns-then-second-count
 returns-then-second-count c =
-    let passed = c in
-    let args = passed.args in
+    let args = c.args in
     work_second args.input args.sheet.now args.bytes.now args.plan args.count args.second
-    (sym passed.first_refusal-refusal.ensures ∙ passed.if-refusal-ne0.false) c.if-second-count.true
+    (sym c.first_refusal-refusal.ensures ∙ c.if-refusal-ne0.false) c.if-second-count.true
 
 pub returns : goal.returns
 returns c =
-    let passed = c in
-    let args = passed.args in
+    let args = c.args in
     work_fits args.input args.sheet.now args.bytes.now args.plan args.count args.second
-    (sym passed.first_refusal-refusal.ensures ∙ passed.if-refusal-ne0.false) c.if-second-count.false
+    (sym c.first_refusal-refusal.ensures ∙ c.if-refusal-ne0.false) c.if-second-count.false

@@ -5,8 +5,7 @@ use Rattle.filters.proofs.levels.all_sizes.Goals as goal
 
 pub go_through-requires : goal.go_through-requires
 go_through-requires c =
-    let entry = c in
     let cleared = c.clear.ensures in (
-      entry.requires.0,
-      (entry.requires.1.0, (c.count_of-count.ensures, cleared ∙ ap (λ n. replicate n 0) entry.requires.1.1)),
+      c.requires.0,
+      (c.requires.1.0, (c.count_of-count.ensures, cleared ∙ ap (λ n. replicate n 0) c.requires.1.1)),
     )

@@ -6,6 +6,5 @@ use Rattle.filters.proofs.levels.filter_levels.Goals as goal
 pub returns : goal.returns
 returns c =
     let cleared = c.clear_both.ensures in
-    let stored = c in
     let second = c.second-1 in
-    (cleared.0, (cleared.1 ∙ ap (λ n. replicate n 0) second.given, stored.all_sizes.ensures))
+    (cleared.0, (cleared.1 ∙ ap (λ n. replicate n 0) second.given, c.all_sizes.ensures))

@@ -9,10 +9,9 @@ loop-k-init c = let pre = c.requires in steps_start pre.1.1.0 pre.0 pre.1.1.1
 
 pub one_size-requires : goal.one_size-requires
 one_size-requires c =
-    let turn = c in
-    let steps = turn.loop-k.invariant in
-    let pre = turn.requires in
-    let size = step_small pre.1.1.0 pre.1.0 turn.loop-k-test.true c.size_at.ensures in
+    let steps = c.loop-k.invariant in
+    let pre = c.requires in
+    let size = step_small pre.1.1.0 pre.1.0 c.loop-k-test.true c.size_at.ensures in
     (steps.given, (size.0, steps.room))
 
 pub loop-k-smaller : goal.loop-k-smaller
@@ -20,11 +19,9 @@ loop-k-smaller c = omega (arith, c.loop-k-test.true)
 
 pub loop-k-preserved : goal.loop-k-preserved
 loop-k-preserved c =
-    let called = c in
-    let turn = called in
-    let pre = turn.requires in
-    steps_turn pre.1.1.0 pre.1.0 turn.loop-k.invariant turn.loop-k-test.true called.size_at.ensures
-    called.one_size.ensures
+    let pre = c.requires in
+    steps_turn pre.1.1.0 pre.1.0 c.loop-k.invariant c.loop-k-test.true c.size_at.ensures
+    c.one_size.ensures
 
 pub shape_of-second : goal.shape_of-second
 shape_of-second c = c.loop-k.invariant.given.second_size ∙ sym c.requires.0.second_size

@@ -5,8 +5,7 @@ use Rattle.filters.proofs.levels.store_held.Goals as goal
 
 pub store_rows-requires : goal.store_rows-requires
 store_rows-requires c =
-    let entry = c in
-    (part_canvas entry.requires.0 entry.requires.1.0 c.held_part-part.ensures, entry.requires.1.1.1)
+    (part_canvas c.requires.0 c.requires.1.0 c.held_part-part.ensures, c.requires.1.1.1)
 
 pub returns : goal.returns
 returns c =

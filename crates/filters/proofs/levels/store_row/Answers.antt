@@ -18,8 +18,8 @@ pub loop-i-preserved : goal.loop-i-preserved
 loop-i-preserved c =
     let pre = c.requires in
     let loop = c.loop-i in
-    let loop-test = c.loop-i-test in
-    storing_turn loop.invariant loop-test.true pre.1 c.choose-level.result c.choose-level.ensures
+    let loop_test = c.loop-i-test in
+    storing_turn loop.invariant loop_test.true pre.1 c.choose-level.result c.choose-level.ensures
 
 pub shape_of-out : goal.shape_of-out
 shape_of-out c = c.loop-i.invariant.patch.size

@@ -28,9 +28,9 @@ store_row-requires c =
     let pre = c.requires in
     let args = c.args in
     let loop = c.loop-row in
-    let loop-test = c.loop-row-test in
-    let s = frame_room pre.0 loop.row loop-test.true in
-    let t = row_end args.width args.height loop.row loop-test.true in
+    let loop_test = c.loop-row-test in
+    let s = frame_room pre.0 loop.row loop_test.true in
+    let t = row_end args.width args.height loop.row loop_test.true in
     let long = loop.invariant.1.filled.size in (omega arith, omega arith)
 
 pub loop-row-smaller : goal.loop-row-smaller

@@ -12,9 +12,9 @@ returns-then-answer-ne1 c =
 pub returns : goal.returns
 returns c =
     let args = c.args in
-    let write-pbm = c.write_pbm-written in
+    let write_pbm = c.write_pbm-written in
     let answer = c.answer_value in
     rw answer.ensures.0 (write_answers args.width args.height args.sheet.now args.out.now args.answer.now
-    c.if-answer-ne1.false write-pbm.result.refusal
-    write-pbm.result.length write-pbm.new.out
-    write-pbm.ensures answer.new.answer answer.ensures.1)
+    c.if-answer-ne1.false write_pbm.result.refusal
+    write_pbm.result.length write_pbm.new.out
+    write_pbm.ensures answer.new.answer answer.ensures.1)

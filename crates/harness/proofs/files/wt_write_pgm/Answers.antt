@@ -15,23 +15,22 @@ read_record-run-requires c = sym c.holds_no_record.ensures ∙ c.if-holds_no_rec
 pub returns-then-answer-ne1 : goal.returns-then-answer-ne1
 returns-then-answer-ne1 c =
     let args = c.args in
-    let holds-no-record = c.holds_no_record in
+    let holds_no_record = c.holds_no_record in
     let if1 = c.if-holds_no_record in
-    let read-record = c.read_record-run in
+    let read_record = c.read_record-run in
     let if2 = c.if-answer-ne1 in
     picture_other args.words.now args.levels.now args.out.now args.answer.now
-    (sym holds-no-record.ensures ∙ if1.false) read-record.result read-record.ensures if2.true c.at_latest.ensures
+    (sym holds_no_record.ensures ∙ if1.false) read_record.result read_record.ensures if2.true c.at_latest.ensures
     c.pgm_refusal-refusal.ensures
 
 pub returns : goal.returns
 returns c =
-    let tested = c in
-    let args = tested.args in
-    let read-record = c.read_record-run in
-    let write-pgm = c.write_pgm-written in
+    let args = c.args in
+    let read_record = c.read_record-run in
+    let write_pgm = c.write_pgm-written in
     let answer = c.answer_value in
     rw answer.ensures.0 (picture_answers args.words.now args.levels.now args.out.now args.answer.now
-    (sym tested.holds_no_record.ensures ∙ tested.if-holds_no_record.false) read-record.result read-record.ensures
-    c.if-answer-ne1.false write-pgm.result.refusal
-    write-pgm.result.length write-pgm.new.out
-    write-pgm.ensures answer.new.answer answer.ensures.1)
+    (sym c.holds_no_record.ensures ∙ c.if-holds_no_record.false) read_record.result read_record.ensures
+    c.if-answer-ne1.false write_pgm.result.refusal
+    write_pgm.result.length write_pgm.new.out
+    write_pgm.ensures answer.new.answer answer.ensures.1)

@@ -19,50 +19,46 @@ read_record-run-requires c = sym c.holds_no_record.ensures ∙ c.if-holds_no_rec
 pub returns-then-answer-ne2 : goal.returns-then-answer-ne2
 returns-then-answer-ne2 c =
     let args = c.args in
-    let holds-no-record = c.holds_no_record in
+    let holds_no_record = c.holds_no_record in
     let if1 = c.if-holds_no_record in
-    let read-record = c.read_record-run in
+    let read_record = c.read_record-run in
     let if2 = c.if-answer-ne2 in
     continue_other args.words.now args.levels.now args.allowance args.answer.now
-    (sym holds-no-record.ensures ∙ if1.false) read-record.result read-record.ensures if2.true c.at_latest.ensures
+    (sym holds_no_record.ensures ∙ if1.false) read_record.result read_record.ensures if2.true c.at_latest.ensures
     c.continue_refusal-refusal.ensures
 
 pub returns-then-refusal-ne0 : goal.returns-then-refusal-ne0
 returns-then-refusal-ne0 c =
     let args = c.args in
-    let holds-no-record = c.holds_no_record in
+    let holds_no_record = c.holds_no_record in
     let if1 = c.if-holds_no_record in
-    let read-record = c.read_record-run in
+    let read_record = c.read_record-run in
     let if2 = c.if-answer-ne2 in
-    let continue-run = c.continue_run-worked in
+    let continue_run = c.continue_run-worked in
     continue_refuses args.words.now args.levels.now args.allowance args.answer.now
-    (sym holds-no-record.ensures ∙ if1.false) read-record.result read-record.ensures if2.false
-    continue-run.result.refusal continue-run.result.run continue-run.result.done continue-run.new.levels
-    continue-run.result.lowered continue-run.ensures c.if-refusal-ne0.true
+    (sym holds_no_record.ensures ∙ if1.false) read_record.result read_record.ensures if2.false
+    continue_run.result.refusal continue_run.result.run continue_run.result.done continue_run.new.levels
+    continue_run.result.lowered continue_run.ensures c.if-refusal-ne0.true
 
 pub write_record-requires : goal.write_record-requires
 write_record-requires c =
-    let tested = c in
-    record_length tested.args.words.now
-    (sym tested.holds_no_record.ensures ∙ tested.if-holds_no_record.false)
+    record_length c.args.words.now
+    (sym c.holds_no_record.ensures ∙ c.if-holds_no_record.false)
 
 pub bounds-answer-1 : goal.bounds-answer-1
 bounds-answer-1 c =
-    let worked = c in
-    rw (length-set, worked.if-answer-ne2.false) (omega arith)
+    rw (length-set, c.if-answer-ne2.false) (omega arith)
 
 pub returns : goal.returns
 returns c =
-    let worked = c in
-    let tested = worked in
-    let args = tested.args in
-    let read-record = worked.read_record-run in
-    let continue-run = worked.continue_run-worked in
+    let args = c.args in
+    let read_record = c.read_record-run in
+    let continue_run = c.continue_run-worked in
     let if3 = c.if-refusal-ne0 in
-    let write-record = c.write_record in
+    let write_record = c.write_record in
     continue_accepts args.words.now args.levels.now args.allowance args.answer.now
-    (sym tested.holds_no_record.ensures ∙ tested.if-holds_no_record.false) read-record.result read-record.ensures
-    worked.if-answer-ne2.false
-    continue-run.result.refusal continue-run.result.run continue-run.result.done continue-run.new.levels
-    continue-run.result.lowered continue-run.ensures if3.false write-record.new.words write-record.ensures
+    (sym c.holds_no_record.ensures ∙ c.if-holds_no_record.false) read_record.result read_record.ensures
+    c.if-answer-ne2.false
+    continue_run.result.refusal continue_run.result.run continue_run.result.done continue_run.new.levels
+    continue_run.result.lowered continue_run.ensures if3.false write_record.new.words write_record.ensures
     c.flag_of.result c.flag_of.ensures

@@ -14,14 +14,13 @@ returns-then-words-ne-RECORD_WORDS c =
 
 pub returns : goal.returns
 returns c =
-    let earlier = c in
-    let args = earlier.args in
+    let args = c.args in
     let if1 = c.if-words-ne-RECORD_WORDS in
-    let start-erosion = c.start_erosion-started in
-    let answer-start = c.answer_start in
-    rw answer-start.ensures.0
+    let start_erosion = c.start_erosion-started in
+    let answer_start = c.answer_start in
+    rw answer_start.ensures.0
     (start_answers (erosion_refusals args.width args.height args.sheet.now args.side args.cells.now
     args.levels.now) tt (start_record eroding args.width args.height 0 args.side args.cells.now)
-    args.sheet.now args.levels.now args.words.now if1.false start-erosion.result.refusal
-    start-erosion.result.run start-erosion.new.levels start-erosion.ensures
-    answer-start.new.words answer-start.ensures.1)
+    args.sheet.now args.levels.now args.words.now if1.false start_erosion.result.refusal
+    start_erosion.result.run start_erosion.new.levels start_erosion.ensures
+    answer_start.new.words answer_start.ensures.1)

@@ -14,8 +14,8 @@ read_record-run-requires c = sym c.holds_no_record.ensures ∙ c.if-holds_no_rec
 pub returns : goal.returns
 returns c =
     let args = c.args in
-    let holds-no-record = c.holds_no_record in
+    let holds_no_record = c.holds_no_record in
     let if1 = c.if-holds_no_record in
-    let read-record = c.read_record-run in
-    record_answers args.words.now (sym holds-no-record.ensures ∙ if1.false)
-    (rw read-record.ensures at c.threshold.ensures)
+    let read_record = c.read_record-run in
+    record_answers args.words.now (sym holds_no_record.ensures ∙ if1.false)
+    (rw read_record.ensures at c.threshold.ensures)

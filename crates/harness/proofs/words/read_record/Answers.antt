@@ -13,18 +13,16 @@ byte_of-kind-requires c =
 pub byte_of-edge-requires : goal.byte_of-edge-requires
 byte_of-edge-requires c =
     let args = c.args in
-    let start = c in
-    record_byte args.words.now start.requires record_cells (omega arith)
+    record_byte args.words.now c.requires record_cells (omega arith)
 
 pub returns : goal.returns
 returns c =
-    let earlier = c in
-    let args = earlier.args in
-    let read-cells = earlier.read_cells-cells in
+    let args = c.args in
+    let read_cells = c.read_cells-cells in
     let byte_of = c.byte_of-kind in
-    let byte-of2 = c.byte_of-edge in
-    record_is args.words.now earlier.requires read-cells.result byte_of.result byte-of2.result
-    read-cells.ensures byte_of.ensures byte-of2.ensures
+    let byte_of2 = c.byte_of-edge in
+    record_is args.words.now c.requires read_cells.result byte_of.result byte_of2.result
+    read_cells.ensures byte_of.ensures byte_of2.ensures
 
 pub bounds-words-0 : goal.bounds-words-0
 bounds-words-0 c = search (rules, record_word)

@@ -15,10 +15,9 @@ bounds-words-k c = let s = c.loop-k.invariant.size in omega arith
 pub loop-k-preserved : goal.loop-k-preserved
 loop-k-preserved c =
     let args = c.args in
-    let start = c in
     let loop = c.loop-k in
     let word_of = c.word_of-word in
-    stored_turn args.words.now args.cells start.requires (omega arith) loop.k loop.words word_of.result loop.invariant
+    stored_turn args.words.now args.cells c.requires (omega arith) loop.k loop.words word_of.result loop.invariant
     c.loop-k-test.true word_of.ensures
 
 pub bounds-words-55 : goal.bounds-words-55
@@ -26,15 +25,13 @@ bounds-words-55 c = let s = c.loop-k.invariant.size in omega arith
 
 pub shape_of-words : goal.shape_of-words
 shape_of-words c =
-    let start = c in
     let loop = c.loop-k in
-    length-set loop.words _ _ ∙ loop.invariant.size ∙ sym start.requires
+    length-set loop.words _ _ ∙ loop.invariant.size ∙ sym c.requires
 
 pub returns : goal.returns
 returns c =
     let args = c.args in
-    let start = c in
     let loop = c.loop-k in
-    let word-of2 = c.word_of-last in
-    stored_all args.words.now args.cells start.requires (omega arith) loop.k loop.words loop.invariant c.loop-k-test.false
-    args.edge word-of2.result word-of2.ensures
+    let word_of2 = c.word_of-last in
+    stored_all args.words.now args.cells c.requires (omega arith) loop.k loop.words loop.invariant c.loop-k-test.false
+    args.edge word_of2.result word_of2.ensures

@@ -4,10 +4,9 @@ use Rattle.harness.proofs.words.write_record.Goals as goal
 
 pub returns : goal.returns
 returns c =
-    let earlier = c in
-    let args = earlier.args in
+    let args = c.args in
     let word_of = c.word_of in
-    let write-numbers = c.write_numbers in
+    let write_numbers = c.write_numbers in
     let write_bytes = c.write_bytes in
-    record_stored args.run args.words.now write-numbers.new.words write_bytes.new.words
-    word_of.result word_of.ensures write-numbers.ensures write_bytes.ensures
+    record_stored args.run args.words.now write_numbers.new.words write_bytes.new.words
+    word_of.result word_of.ensures write_numbers.ensures write_bytes.ensures

@@ -10,19 +10,19 @@ pub returns-then-limit-wide : goal.returns-then-limit-wide
 returns-then-limit-wide c =
     let args = c.args in
     let loop = c.loop-i in
-    let loop-test = c.loop-i-test in
+    let loop_test = c.loop-i-test in
     let e = c.wide.ensures in
     sym (sym loop.invariant.1
-    ∙ above_found args.limit args.levels.now loop.i loop-test.true (let l = c.if-limit-wide.true in omega arith))
+    ∙ above_found args.limit args.levels.now loop.i loop_test.true (let l = c.if-limit-wide.true in omega arith))
 
 pub loop-i-preserved : goal.loop-i-preserved
 loop-i-preserved c =
     let args = c.args in
     let loop = c.loop-i in
-    let loop-test = c.loop-i-test in
+    let loop_test = c.loop-i-test in
     let e = c.wide.ensures in (
       omega arith,
-      sym (above_passed args.limit args.levels.now loop.i loop-test.true
+      sym (above_passed args.limit args.levels.now loop.i loop_test.true
           (let l = c.if-limit-wide.false in omega arith)) ∙ loop.invariant.1,
     )
 

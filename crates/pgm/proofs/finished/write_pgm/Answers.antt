@@ -28,28 +28,28 @@ rows_due-due-requires c =
 pub write_pgm_text-length-requires : goal.write_pgm_text-length-requires
 write_pgm_text-length-requires c =
     let args = c.args in
-    let pgm-refusal = c.pgm_refusal-refusal in
+    let pgm_refusal = c.pgm_refusal-refusal in
     let if1 = c.if-refusal-ne0 in
-    let maximum-of = c.maximum_of-maximum in
-    let rows-due = c.rows_due-due in
-    let q = picture_accepted args.run args.levels.now args.out.now (sym pgm-refusal.ensures ∙ if1.false) in
+    let maximum_of = c.maximum_of-maximum in
+    let rows_due = c.rows_due-due in
+    let q = picture_accepted args.run args.levels.now args.out.now (sym pgm_refusal.ensures ∙ if1.false) in
     let e = ap₂ (λ m d. pgm_text args.run.width args.run.height m args.run.rows d args.levels.now)
-    maximum-of.ensures rows-due.ensures.0 in (
-      sound_picture args.run args.levels.now q.0 q.1 maximum-of.result rows-due.result maximum-of.ensures
-          rows-due.ensures.0,
+    maximum_of.ensures rows_due.ensures.0 in (
+      sound_picture args.run args.levels.now q.0 q.1 maximum_of.result rows_due.result maximum_of.ensures
+          rows_due.ensures.0,
       rw e q.2,
     )
 
 pub returns : goal.returns
 returns c =
     let args = c.args in
-    let pgm-refusal = c.pgm_refusal-refusal in
+    let pgm_refusal = c.pgm_refusal-refusal in
     let if1 = c.if-refusal-ne0 in
-    let maximum-of = c.maximum_of-maximum in
-    let rows-due = c.rows_due-due in
-    let write-pgm-text = c.write_pgm_text-length in
+    let maximum_of = c.maximum_of-maximum in
+    let rows_due = c.rows_due-due in
+    let write_pgm_text = c.write_pgm_text-length in
     let e = ap₂ (λ m d. pgm_text args.run.width args.run.height m args.run.rows d args.levels.now)
-    maximum-of.ensures rows-due.ensures.0 in
-    let w = write-pgm-text.ensures in
-    picture_accepts args.run args.levels.now args.out.now (sym pgm-refusal.ensures ∙ if1.false)
-    write-pgm-text.result _ (w.0 ∙ ap length e) (w.1 ∙ ap (λ t. begun t args.out.now) e)
+    maximum_of.ensures rows_due.ensures.0 in
+    let w = write_pgm_text.ensures in
+    picture_accepts args.run args.levels.now args.out.now (sym pgm_refusal.ensures ∙ if1.false)
+    write_pgm_text.result _ (w.0 ∙ ap length e) (w.1 ∙ ap (λ t. begun t args.out.now) e)

@@ -16,22 +16,22 @@ levels_wrong-requires c =
 pub returns-then-levels_wrong : goal.returns-then-levels_wrong
 returns-then-levels_wrong c =
     let args = c.args in
-    let record-bad = c.record_bad in
-    continue_length args.run args.levels.now args.allowance (sym record-bad.ensures ∙ c.if-record_bad.false)
+    let record_bad = c.record_bad in
+    continue_length args.run args.levels.now args.allowance (sym record_bad.ensures ∙ c.if-record_bad.false)
     (sym c.levels_wrong.ensures ∙ c.if-levels_wrong.true)
 
 pub returns-then-allowance-gt-MOST_ROWS : goal.returns-then-allowance-gt-MOST_ROWS
 returns-then-allowance-gt-MOST_ROWS c =
     let args = c.args in
-    let record-bad = c.record_bad in
+    let record_bad = c.record_bad in
     let if1 = c.if-record_bad in
-    continue_allowance args.run args.levels.now args.allowance (sym record-bad.ensures ∙ if1.false)
+    continue_allowance args.run args.levels.now args.allowance (sym record_bad.ensures ∙ if1.false)
     (sym c.levels_wrong.ensures ∙ c.if-levels_wrong.false) c.if-allowance-gt-MOST_ROWS.true
 
 pub returns : goal.returns
 returns c =
     let args = c.args in
-    let record-bad = c.record_bad in
+    let record_bad = c.record_bad in
     let if1 = c.if-record_bad in
-    continue_accept args.run args.levels.now args.allowance (sym record-bad.ensures ∙ if1.false)
+    continue_accept args.run args.levels.now args.allowance (sym record_bad.ensures ∙ if1.false)
     (sym c.levels_wrong.ensures ∙ c.if-levels_wrong.false) c.if-allowance-gt-MOST_ROWS.false

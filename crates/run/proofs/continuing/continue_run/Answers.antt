@@ -30,9 +30,9 @@ overflow_sub-due c =
 pub work_rows-lowered-requires : goal.work_rows-lowered-requires
 work_rows-lowered-requires c =
     let args = c.args in
-    let continue-refusal = c.continue_refusal-refusal in
+    let continue_refusal = c.continue_refusal-refusal in
     let if1 = c.if-refusal-ne0 in
-    let q = continue_accepted args.run args.levels.now args.allowance (sym continue-refusal.ensures ∙ if1.false) in
+    let q = continue_accepted args.run args.levels.now args.allowance (sym continue_refusal.ensures ∙ if1.false) in
     let b = not_bad args.run q.0 in
     let e = c.rows_due-due.ensures.0 in
     let l = c.lesser-count.ensures in
@@ -42,38 +42,38 @@ work_rows-lowered-requires c =
 pub overflow_add-rows : goal.overflow_add-rows
 overflow_add-rows c =
     let args = c.args in
-    let continue-refusal = c.continue_refusal-refusal in
+    let continue_refusal = c.continue_refusal-refusal in
     let if1 = c.if-refusal-ne0 in
-    let rows-due = c.rows_due-due in
+    let rows_due = c.rows_due-due in
     let lesser = c.lesser-count in
     let b = (not_bad args.run
-    (continue_accepted args.run args.levels.now args.allowance (sym continue-refusal.ensures ∙ if1.false)).0).1 in
-    let e = rows-due.ensures in
+    (continue_accepted args.run args.levels.now args.allowance (sym continue_refusal.ensures ∙ if1.false)).0).1 in
+    let e = rows_due.ensures in
     let l = lesser.ensures in
     omega arith
 
 pub overflow_add-result : goal.overflow_add-result
 overflow_add-result c =
     let args = c.args in
-    let continue-refusal = c.continue_refusal-refusal in
+    let continue_refusal = c.continue_refusal-refusal in
     let if1 = c.if-refusal-ne0 in
-    let rows-due = c.rows_due-due in
+    let rows_due = c.rows_due-due in
     let lesser = c.lesser-count in
     let b = (not_bad args.run
-    (continue_accepted args.run args.levels.now args.allowance (sym continue-refusal.ensures ∙ if1.false)).0).1 in
-    let e = rows-due.ensures in
+    (continue_accepted args.run args.levels.now args.allowance (sym continue_refusal.ensures ∙ if1.false)).0).1 in
+    let e = rows_due.ensures in
     let l = lesser.ensures in
     omega arith
 
 pub returns : goal.returns
 returns c =
     let args = c.args in
-    let continue-refusal = c.continue_refusal-refusal in
+    let continue_refusal = c.continue_refusal-refusal in
     let if1 = c.if-refusal-ne0 in
-    let rows-due = c.rows_due-due in
+    let rows_due = c.rows_due-due in
     let lesser = c.lesser-count in
-    let work-rows = c.work_rows-lowered in
-    continue_accepts args.run args.levels.now args.allowance (sym continue-refusal.ensures ∙ if1.false)
-    c.with_rows-next.result work-rows.new.levels lesser.result rows-due.result work-rows.result
-    (lesser.ensures ∙ ap (λ n. min args.allowance (n - args.run.rows)) rows-due.ensures.0) rows-due.ensures.0
-    c.with_rows-next.ensures work-rows.ensures.0 work-rows.ensures.1
+    let work_rows = c.work_rows-lowered in
+    continue_accepts args.run args.levels.now args.allowance (sym continue_refusal.ensures ∙ if1.false)
+    c.with_rows-next.result work_rows.new.levels lesser.result rows_due.result work_rows.result
+    (lesser.ensures ∙ ap (λ n. min args.allowance (n - args.run.rows)) rows_due.ensures.0) rows_due.ensures.0
+    c.with_rows-next.ensures work_rows.ensures.0 work_rows.ensures.1

@@ -23,9 +23,8 @@ overflow_mul-row-in-loop-row c =
 
 pub copy_row-requires : goal.copy_row-requires
 copy_row-requires c =
-    let start = c in
-    let s = frame_room start.requires.0 c.loop-row.row c.loop-row-test.true in
-    let t = row_end start.args.width start.args.height c.loop-row.row c.loop-row-test.true in
+    let s = frame_room c.requires.0 c.loop-row.row c.loop-row-test.true in
+    let t = row_end c.args.width c.args.height c.loop-row.row c.loop-row-test.true in
     let long = c.loop-row.invariant.1.filled.size in
     (omega arith, omega arith)
 

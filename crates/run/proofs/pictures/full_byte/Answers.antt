@@ -17,8 +17,8 @@ pub overflow_add-byte : goal.overflow_add-byte
 overflow_add-byte c =
     let args = c.args in
     let loop = c.loop-i in
-    let loop-test = c.loop-i-test in
-    let s = held_fits args.low args.high args.levels.now args.from loop.i loop-test.true in
+    let loop_test = c.loop-i-test in
+    let s = held_fits args.low args.high args.levels.now args.from loop.i loop_test.true in
     let e = c.held.ensures in
     omega arith
 

@@ -6,6 +6,6 @@ use Rattle.run.proofs.pictures.last_byte.Goals as goal
 pub returns : goal.returns
 returns c =
     let args = c.args in
-    let copy-row = c.copy_row in
-    last_of args.low args.high args.levels.now args.from args.width copy-row.ensures
+    let copy_row = c.copy_row in
+    last_of args.low args.high args.levels.now args.from args.width copy_row.ensures
     refl c.full_byte.ensures

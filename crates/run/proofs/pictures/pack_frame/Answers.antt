@@ -18,8 +18,8 @@ pub overflow_mul-row-in-loop-row : goal.overflow_mul-row-in-loop-row
 overflow_mul-row-in-loop-row c =
     let args = c.args in
     let pre = c.requires in
-    let row-bytes = c.row_bytes-bytes in
-    let s = bytes_room args.width args.height c.loop-row.row row-bytes.result row-bytes.ensures
+    let row_bytes = c.row_bytes-bytes in
+    let s = bytes_room args.width args.height c.loop-row.row row_bytes.result row_bytes.ensures
     c.loop-row-test.true in
     let e = pre.1 in omega arith
 
@@ -27,11 +27,11 @@ pub pack_row-requires : goal.pack_row-requires
 pack_row-requires c =
     let pre = c.requires in
     let args = c.args in
-    let row-bytes = c.row_bytes-bytes in
+    let row_bytes = c.row_bytes-bytes in
     let loop = c.loop-row in
-    let loop-test = c.loop-row-test in
-    let s = frame_room pre.0 loop.row loop-test.true in
-    let t = bytes_room args.width args.height loop.row row-bytes.result row-bytes.ensures loop-test.true in
+    let loop_test = c.loop-row-test in
+    let s = frame_room pre.0 loop.row loop_test.true in
+    let t = bytes_room args.width args.height loop.row row_bytes.result row_bytes.ensures loop_test.true in
     let w = pre.0.wide in
     let long = loop.invariant.1.filled.size in
     (omega arith, (omega arith, omega arith))
@@ -42,11 +42,11 @@ loop-row-smaller c = omega arith
 pub loop-row-preserved : goal.loop-row-preserved
 loop-row-preserved c =
     let args = c.args in
-    let row-bytes = c.row_bytes-bytes in
+    let row_bytes = c.row_bytes-bytes in
     let loop = c.loop-row in (
       omega arith,
       packed_row args.width args.margin args.levels.now args.low args.high loop.invariant.1
-          row-bytes.ensures c.pack_row.ensures,
+          row_bytes.ensures c.pack_row.ensures,
     )
 
 pub shape_of-out : goal.shape_of-out

@@ -15,10 +15,10 @@ pub loop-k-preserved : goal.loop-k-preserved
 loop-k-preserved c =
     let args = c.args in
     let loop = c.loop-k in
-    let full-byte = c.full_byte-byte in (
+    let full_byte = c.full_byte-byte in (
       omega arith,
-      patch_turn loop.invariant.1 full-byte.result (omega arith)
-          (full_of args.low args.high args.levels.now args.from args.width loop.k (omega arith) full-byte.ensures),
+      patch_turn loop.invariant.1 full_byte.result (omega arith)
+          (full_of args.low args.high args.levels.now args.from args.width loop.k (omega arith) full_byte.ensures),
     )
 
 pub bounds-out-at-then-width-ne0 : goal.bounds-out-at-then-width-ne0

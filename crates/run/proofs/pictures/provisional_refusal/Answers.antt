@@ -8,41 +8,41 @@ use Rattle.run.proofs.pictures.provisional_refusal.Goals as goal
 
 pub returns-then-record_bad : goal.returns-then-record_bad
 returns-then-record_bad c =
-    let record-bad = c.record_bad in
+    let record_bad = c.record_bad in
     let if1 = c.if-record_bad in
-    let bad = sym record-bad.ensures ∙ if1.true in
+    let bad = sym record_bad.ensures ∙ if1.true in
     rw bad
 
 pub row_bytes-requires : goal.row_bytes-requires
 row_bytes-requires c =
     let args = c.args in
-    let record-bad = c.record_bad in
+    let record_bad = c.record_bad in
     let if1 = c.if-record_bad in
-    (sound_record args.run (sym record-bad.ensures ∙ if1.false)).wide.1
+    (sound_record args.run (sym record_bad.ensures ∙ if1.false)).wide.1
 
 pub overflow_mul-wanted : goal.overflow_mul-wanted
 overflow_mul-wanted c =
     let args = c.args in
-    let record-bad = c.record_bad in
+    let record_bad = c.record_bad in
     let if1 = c.if-record_bad in
-    let row-bytes = c.row_bytes in
-    let s = sound_record args.run (sym record-bad.ensures ∙ if1.false) in
+    let row_bytes = c.row_bytes in
+    let s = sound_record args.run (sym record_bad.ensures ∙ if1.false) in
     let small = raster_small args.run.width args.run.height s.wide.1 s.high.1 in
-    let e = ap (λ bytes. args.run.height * bytes) row-bytes.ensures in
+    let e = ap (λ bytes. args.run.height * bytes) row_bytes.ensures in
     omega arith
 
 pub view_refusal-requires : goal.view_refusal-requires
 view_refusal-requires c =
-    let record-bad = c.record_bad in
+    let record_bad = c.record_bad in
     let if1 = c.if-record_bad in
-    sym record-bad.ensures ∙ if1.false
+    sym record_bad.ensures ∙ if1.false
 
 pub returns : goal.returns
 returns c =
     let args = c.args in
-    let record-bad = c.record_bad in
+    let record_bad = c.record_bad in
     let if1 = c.if-record_bad in
-    let row-bytes = c.row_bytes in
-    let view-refusal = c.view_refusal in
-    provisional_judged args.run args.levels.now args.out.now args.size (sym record-bad.ensures ∙ if1.false)
-    (rw row-bytes.ensures at view-refusal.ensures)
+    let row_bytes = c.row_bytes in
+    let view_refusal = c.view_refusal in
+    provisional_judged args.run args.levels.now args.out.now args.size (sym record_bad.ensures ∙ if1.false)
+    (rw row_bytes.ensures at view_refusal.ensures)

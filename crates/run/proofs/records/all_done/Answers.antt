@@ -6,5 +6,5 @@ use Rattle.run.proofs.records.all_done.Goals as goal
 pub returns : goal.returns
 returns c =
     let args = c.args in
-    let rows-due = c.rows_due in
-    ap (eqb args.run.rows) rows-due.ensures.0
+    let rows_due = c.rows_due in
+    ap (eqb args.run.rows) rows_due.ensures.0

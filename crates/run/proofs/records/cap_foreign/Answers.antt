@@ -9,12 +9,12 @@ pub returns-then-run-margin-gt-LONGEST_SIDE : goal.returns-then-run-margin-gt-LO
 returns-then-run-margin-gt-LONGEST_SIDE c =
     let args = c.args in
     let if1 = c.if-cap-gt-HIGHEST_CAP in
-    let margin-of = c.margin_of-margin in
-    cap_width args.run if1.false margin-of.result margin-of.ensures.0 c.if-run-margin-gt-LONGEST_SIDE.true
+    let margin_of = c.margin_of-margin in
+    cap_width args.run if1.false margin_of.result margin_of.ensures.0 c.if-run-margin-gt-LONGEST_SIDE.true
 
 pub returns : goal.returns
 returns c =
     let args = c.args in
     let if1 = c.if-cap-gt-HIGHEST_CAP in
-    let margin-of = c.margin_of-margin in
-    cap_height args.run if1.false margin-of.result margin-of.ensures.0 c.if-run-margin-gt-LONGEST_SIDE.false
+    let margin_of = c.margin_of-margin in
+    cap_height args.run if1.false margin_of.result margin_of.ensures.0 c.if-run-margin-gt-LONGEST_SIDE.false

@@ -11,7 +11,7 @@ rows_due-requires c = sym c.record_foreign.ensures ∙ c.if-record_foreign.false
 
 pub returns : goal.returns
 returns c =
-    let record-foreign = c.record_foreign in
-    let rows-due = c.rows_due in
-    bad_rows c.args.run (sym record-foreign.ensures ∙ c.if-record_foreign.false)
-    rows-due.result rows-due.ensures.0
+    let record_foreign = c.record_foreign in
+    let rows_due = c.rows_due in
+    bad_rows c.args.run (sym record_foreign.ensures ∙ c.if-record_foreign.false)
+    rows_due.result rows_due.ensures.0

@@ -25,7 +25,7 @@ canvas_refusal-requires c =
 pub returns : goal.returns
 returns c =
     let args = c.args in
-    let start-refusal = c.start_refusal-refusal in
+    let start_refusal = c.start_refusal-refusal in
     dilation_canvas args.width args.height args.sheet.now args.side args.bytes.now args.cap
-    args.levels.now (sym start-refusal.ensures ∙ c.if-refusal-ne0.false) c.if-cap-gt-HIGHEST_CAP.false
+    args.levels.now (sym start_refusal.ensures ∙ c.if-refusal-ne0.false) c.if-cap-gt-HIGHEST_CAP.false
     c.canvas_refusal.ensures

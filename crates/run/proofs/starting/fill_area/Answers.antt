@@ -8,8 +8,7 @@ loop-row-init c = (omega arith, rows_none)
 
 pub fill_row-requires : goal.fill_row-requires
 fill_row-requires c =
-    let start = c in
-    (canvas_after start.requires.0 c.loop-row.invariant.1.filled.size, (start.requires.1, omega arith))
+    (canvas_after c.requires.0 c.loop-row.invariant.1.filled.size, (c.requires.1, omega arith))
 
 pub loop-row-smaller : goal.loop-row-smaller
 loop-row-smaller c = omega arith
@@ -25,6 +24,5 @@ shape_of-levels c = c.loop-row.invariant.1.filled.size
 
 pub returns : goal.returns
 returns c =
-    let start = c in
-    start_raster start.args.on start.args.off start.args.outside start.args.sheet.now start.requires.0
+    start_raster c.args.on c.args.off c.args.outside c.args.sheet.now c.requires.0
     c.loop-row.invariant.1 (omega arith)

@@ -7,13 +7,11 @@ use Rattle.run.proofs.starting.fill_row.Goals as goal
 
 pub overflow_mul-at : goal.overflow_mul-at
 overflow_mul-at c =
-    let start = c in
-    let s = row_room start.requires.0 start.args.row start.requires.1.1 in omega arith
+    let s = row_room c.requires.0 c.args.row c.requires.1.1 in omega arith
 
 pub fill_level-requires : goal.fill_level-requires
 fill_level-requires c =
-    let start = c in
-    let s = row_room start.requires.0 start.args.row start.requires.1.1 in omega arith
+    let s = row_room c.requires.0 c.args.row c.requires.1.1 in omega arith
 
 pub returns-then-row-margin : goal.returns-then-row-margin
 returns-then-row-margin c =
@@ -25,8 +23,7 @@ returns-then-row-margin c =
 
 pub fill_level-requires-then-margin-height : goal.fill_level-requires-then-margin-height
 fill_level-requires-then-margin-height c =
-    let start = c in
-    let s = row_room start.requires.0 start.args.row start.requires.1.1 in omega arith
+    let s = row_room c.requires.0 c.args.row c.requires.1.1 in omega arith
 
 pub returns-then-margin-height : goal.returns-then-margin-height
 returns-then-margin-height c =
@@ -38,13 +35,11 @@ returns-then-margin-height c =
 
 pub fill_level-requires-2 : goal.fill_level-requires-2
 fill_level-requires-2 c =
-    let start = c in
-    let s = row_room start.requires.0 start.args.row start.requires.1.1 in omega arith
+    let s = row_room c.requires.0 c.args.row c.requires.1.1 in omega arith
 
 pub overflow_add-at : goal.overflow_add-at
 overflow_add-at c =
-    let start = c in
-    let s = row_room start.requires.0 start.args.row start.requires.1.1 in omega arith
+    let s = row_room c.requires.0 c.args.row c.requires.1.1 in omega arith
 
 pub fill_pixels-requires : goal.fill_pixels-requires
 fill_pixels-requires c =
@@ -64,26 +59,22 @@ fill_pixels-requires c =
 
 pub overflow_add-at-2 : goal.overflow_add-at-2
 overflow_add-at-2 c =
-    let start = c in
-    let s = row_room start.requires.0 start.args.row start.requires.1.1 in omega arith
+    let s = row_room c.requires.0 c.args.row c.requires.1.1 in omega arith
 
 pub overflow_add-at-3 : goal.overflow_add-at-3
 overflow_add-at-3 c =
-    let start = c in
-    let s = row_room start.requires.0 start.args.row start.requires.1.1 in omega arith
+    let s = row_room c.requires.0 c.args.row c.requires.1.1 in omega arith
 
 pub fill_level-requires-3 : goal.fill_level-requires-3
 fill_level-requires-3 c =
-    let start = c in
-    let s = row_room start.requires.0 start.args.row start.requires.1.1 in omega arith
+    let s = row_room c.requires.0 c.args.row c.requires.1.1 in omega arith
 
 pub returns : goal.returns
 returns c =
-    let earlier = c in
-    let args = earlier.args in
-    let if1 = earlier.if-row-margin in
-    let if2 = earlier.if-margin-height in
-    let fill-level3 = earlier.fill_level-2 in
-    let fill-pixels = c.fill_pixels in
+    let args = c.args in
+    let if1 = c.if-row-margin in
+    let if2 = c.if-margin-height in
+    let fill_level3 = c.fill_level-2 in
+    let fill_pixels = c.fill_pixels in
     row_parts args.width args.height args.margin args.sheet.now args.on args.off args.outside args.row if1.false
-    if2.false fill-level3.ensures fill-pixels.ensures c.fill_level-3.ensures
+    if2.false fill_level3.ensures fill_pixels.ensures c.fill_level-3.ensures

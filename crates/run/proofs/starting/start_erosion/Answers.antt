@@ -7,8 +7,8 @@ use Rattle.run.proofs.starting.start_erosion.Goals as goal
 pub returns-then-refusal-ne0 : goal.returns-then-refusal-ne0
 returns-then-refusal-ne0 c =
     let args = c.args in
-    let erosion-refusal = c.erosion_refusal-refusal in
-    start_refuses args.sheet.now c.if-refusal-ne0.true erosion-refusal.ensures c.refused.ensures
+    let erosion_refusal = c.erosion_refusal-refusal in
+    start_refuses args.sheet.now c.if-refusal-ne0.true erosion_refusal.ensures c.refused.ensures
 
 pub fresh_record-run-requires : goal.fresh_record-run-requires
 fresh_record-run-requires c =
@@ -21,9 +21,9 @@ fresh_record-run-requires c =
 pub fill_levels-requires : goal.fill_levels-requires
 fill_levels-requires c =
     let args = c.args in
-    let erosion-refusal = c.erosion_refusal-refusal in
+    let erosion_refusal = c.erosion_refusal-refusal in
     let t = erosion_taken args.width args.height args.sheet.now args.side args.bytes.now args.levels.now
-    (sym erosion-refusal.ensures ∙ c.if-refusal-ne0.false) in
+    (sym erosion_refusal.ensures ∙ c.if-refusal-ne0.false) in
     let j = judged args.width args.height args.sheet.now args.side args.bytes.now t.0 in
     rw c.fresh_record-run.ensures (
       j.element.side_is,
@@ -35,11 +35,10 @@ fill_levels-requires c =
 
 pub returns : goal.returns
 returns c =
-    let earlier = c in
-    let args = earlier.args in
-    let erosion-refusal = c.erosion_refusal-refusal in
+    let args = c.args in
+    let erosion_refusal = c.erosion_refusal-refusal in
     let if1 = c.if-refusal-ne0 in
-    let fresh-record = c.fresh_record-run in
-    let fill-levels = c.fill_levels in
-    start_accepts args.sheet.now (sym erosion-refusal.ensures ∙ if1.false) fresh-record.ensures
-    fill-levels.ensures
+    let fresh_record = c.fresh_record-run in
+    let fill_levels = c.fill_levels in
+    start_accepts args.sheet.now (sym erosion_refusal.ensures ∙ if1.false) fresh_record.ensures
+    fill_levels.ensures

@@ -10,13 +10,12 @@ loop-row-init c = (omega arith, sum_none _)
 
 pub any_in_row-requires : goal.any_in_row-requires
 any_in_row-requires c =
-    let entry = c in
     let row = c.loop-row.row in
     let turn = c.loop-row-test.true in
-    let room = row_end (row_bytes entry.args.width) entry.args.height row turn in
-    let size = entry.requires.1.1 in
-    let high = entry.requires.1.0 in
-    (entry.requires.0, (omega arith, omega arith))
+    let room = row_end (row_bytes c.args.width) c.args.height row turn in
+    let size = c.requires.1.1 in
+    let high = c.requires.1.0 in
+    (c.requires.0, (omega arith, omega arith))
 
 pub returns-then-any_in_row : goal.returns-then-any_in_row
 returns-then-any_in_row c =

@@ -12,20 +12,18 @@ loop-i-init c = (omega arith, (omega arith, sym (sum_none _)))
 
 pub overflow_add-count : goal.overflow_add-count
 overflow_add-count c =
-    let entry = c in
     let loop = c.loop-i in
-    let small = one_at_most entry.args.low entry.args.high (get_or entry.args.levels.now (entry.args.from + loop.i) 0) in
+    let small = one_at_most c.args.low c.args.high (get_or c.args.levels.now (c.args.from + loop.i) 0) in
     let held = c.held.ensures in
-    let most = entry.requires.1 in
+    let most = c.requires.1 in
     let below = loop.invariant.0 in
     let fewer = loop.invariant.1.0 in
     omega arith
 
 pub loop-i-preserved : goal.loop-i-preserved
 loop-i-preserved c =
-    let entry = c in
     let loop = c.loop-i in
-    let small = one_at_most entry.args.low entry.args.high (get_or entry.args.levels.now (entry.args.from + loop.i) 0) in
+    let small = one_at_most c.args.low c.args.high (get_or c.args.levels.now (c.args.from + loop.i) 0) in
     let held = c.held.ensures in
     let fewer = loop.invariant.1.0 in
     let turn = c.loop-i-test.true in

@@ -29,16 +29,15 @@ count_row-count-requires c =
 
 pub overflow_add-count : goal.overflow_add-count
 overflow_add-count c =
-    let entry = c in
     let loop = c.loop-row in
     let turn = c.loop-row-test.true in
     let counted = c.count_row-count.ensures in
-    let most = row_most entry.args.low entry.args.high entry.args.width
-    (λ i. get_or entry.args.levels.now
-    ((loop.row + entry.args.margin) * canvas_side entry.args.width entry.args.margin + entry.args.margin + i) 0) in
+    let most = row_most c.args.low c.args.high c.args.width
+    (λ i. get_or c.args.levels.now
+    ((loop.row + c.args.margin) * canvas_side c.args.width c.args.margin + c.args.margin + i) 0) in
     let fewer = loop.invariant.1.0 in
-    let wide = entry.requires.wide in
-    let high = entry.requires.high in
+    let wide = c.requires.wide in
+    let high = c.requires.high in
     omega arith
 
 pub loop-row-smaller : goal.loop-row-smaller
@@ -46,8 +45,7 @@ loop-row-smaller c = let turn = c.loop-row-test.true in omega arith
 
 pub loop-row-preserved : goal.loop-row-preserved
 loop-row-preserved c =
-    let entry = c in
-    let args = entry.args in
+    let args = c.args in
     let loop = c.loop-row in
     let turn = c.loop-row-test.true in
     let counted = c.count_row-count.ensures in
@@ -55,7 +53,7 @@ loop-row-preserved c =
     (λ i. get_or args.levels.now
     ((loop.row + args.margin) * canvas_side args.width args.margin + args.margin + i) 0) in
     let fewer = loop.invariant.1.0 in
-    let wide = entry.requires.wide in (
+    let wide = c.requires.wide in (
       omega arith,
       (
         omega arith,

@@ -6,11 +6,10 @@ use Rattle.spectrum.proofs.counting.fill_table.Goals as goal
 
 pub overflow_mul-points : goal.overflow_mul-points
 overflow_mul-points c =
-    let entry = c in
-    let s = sound entry.args.run entry.requires.0.taken in
+    let s = sound c.args.run c.requires.0.taken in
     let wide = s.area_wide in
     let high = s.area_high in
-    let small = area_small entry.args.run.height entry.args.run.width (omega arith) (omega arith) in
+    let small = area_small c.args.run.height c.args.run.width (omega arith) (omega arith) in
     omega arith
 
 pub loop-n-init : goal.loop-n-init

@@ -21,19 +21,17 @@ loop-n-init c = let long = c.requires.long in (omega arith, (omega arith, sym (s
 
 pub overflow_add-points : goal.overflow_add-points
 overflow_add-points c =
-    let entry = c in
     let loop = c.loop-n in
-    let more = added entry.args.table.now loop.invariant.0 loop.invariant.1.1 in
-    let most = front_within entry.args.table.now entry.requires loop.n c.loop-n-test.true in
+    let more = added c.args.table.now loop.invariant.0 loop.invariant.1.1 in
+    let most = front_within c.args.table.now c.requires loop.n c.loop-n-test.true in
     omega arith
 
 pub loop-n-preserved : goal.loop-n-preserved
 loop-n-preserved c =
-    let entry = c in
     let loop = c.loop-n in
     let turn = c.loop-n-test.true in
     let e : loop.n + 1 - 1 ≡ loop.n = omega arith in
-    (omega arith, (omega arith, rw e (added entry.args.table.now loop.invariant.0 loop.invariant.1.1)))
+    (omega arith, (omega arith, rw e (added c.args.table.now loop.invariant.0 loop.invariant.1.1)))
 
 pub returns : goal.returns
 returns c =

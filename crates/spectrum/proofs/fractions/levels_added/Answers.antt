@@ -10,16 +10,14 @@ loop-n-init c = (omega arith, sym (sum_none _))
 
 pub overflow_mul-added : goal.overflow_mul-added
 overflow_mul-added c =
-    let entry = c in
-    let term = weighed_term entry.args.table.now entry.requires c.loop-n.n c.loop-n-test.true in
+    let term = weighed_term c.args.table.now c.requires c.loop-n.n c.loop-n-test.true in
     omega arith
 
 pub overflow_add-added : goal.overflow_add-added
 overflow_add-added c =
-    let entry = c in
     let loop = c.loop-n in
-    let term = weighed_term entry.args.table.now entry.requires loop.n c.loop-n-test.true in
-    let rest = weighed_within entry.args.table.now entry.requires loop.n loop.invariant.0 in
+    let term = weighed_term c.args.table.now c.requires loop.n c.loop-n-test.true in
+    let rest = weighed_within c.args.table.now c.requires loop.n loop.invariant.0 in
     let e = loop.invariant.1 in
     omega arith
 

@@ -11,9 +11,8 @@ use Rattle.spectrum.proofs.fractions.summary_of.Goals as goal
 
 pub divided-mean-requires : goal.divided-mean-requires
 divided-mean-requires c =
-    let entry = c in
-    let most = levels_exact entry.args.table.now entry.requires in
-    let all = foreground_exact entry.args.table.now entry.requires in (
+    let most = levels_exact c.args.table.now c.requires in
+    let all = foreground_exact c.args.table.now c.requires in (
       subst (λ n. n ≤ exact_limit) (sym c.levels_added.ensures) most,
       subst (λ n. n ≤ exact_limit) (sym c.foreground_points-points.ensures) all,
     )
@@ -23,9 +22,8 @@ bounds-table-1 c = let long = c.requires.long in omega arith
 
 pub divided-share-requires : goal.divided-share-requires
 divided-share-requires c =
-    let entry = c in
-    let one = term_within entry.args.table.now entry.requires 1 (let long = entry.requires.long in omega arith) in
-    let all = foreground_exact entry.args.table.now entry.requires in
+    let one = term_within c.args.table.now c.requires 1 (let long = c.requires.long in omega arith) in
+    let all = foreground_exact c.args.table.now c.requires in
     (omega arith, subst (λ n. n ≤ exact_limit) (sym c.foreground_points-points.ensures) all)
 
 pub returns : goal.returns
