@@ -8,7 +8,6 @@ mod asking;
 mod calls;
 mod counts;
 mod crops;
-mod input;
 mod lines;
 mod lists;
 mod padding;

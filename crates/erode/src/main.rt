@@ -1,8 +1,6 @@
 // Erodes a raw PBM file with the cross: reads it on standard input, and prints the levels as plain PGM, or a refusal.
 #![tactic(auto)]
 
-mod input;
-
 use std::io;
 
 fn main(rt: HostRuntime) -> io::Result<()> {

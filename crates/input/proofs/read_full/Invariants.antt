@@ -1,6 +1,6 @@
 -- Each turn leaves less of the room to fill.
 use Rattle.std.proofs.Common.{length, ◌-◌, ◌≤◌, ◌≡◌}
-use Rattle.erode.proofs.input.read_full.Given as goal
+use Rattle.input.proofs.read_full.Given as goal
 
 abbrev pub invariant-loop-done : goal.invariant-loop-done
 invariant-loop-done g l = (length l.room ≡ length l.initial.room) × (l.done ≤ length l.room)

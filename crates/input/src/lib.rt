@@ -1,4 +1,6 @@
-// The input, as bytes in a room.
+// A program's input, as bytes in a room.
+#![tactic(auto)]
+
 ghost use Rattle.std.specs.Prelude.{◌≤◌, length, IfOk};
 
 use std::io;
