@@ -212,7 +212,9 @@ fn settle(stored: &mut [u16], worked: &[u16]) -> usize
 {
     let mut fallen = 0u16;
     for i in 0..stored.len() {
-        fallen += u16::from(worked[i] < stored[i]);
+        if worked[i] < stored[i] {
+            fallen += 1;
+        }
         stored[i] = worked[i];
     }
     usize::from(fallen)
