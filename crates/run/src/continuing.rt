@@ -6,6 +6,7 @@ ghost use Rattle.run.specs.Records.{area_width, area_height, due, area_of, forei
 ghost use Rattle.run.specs.Continuing.{continue_refusals, with_rows, Continues};
 
 use super::{Record, kinds, records};
+use row::Area;
 
 // What a continue answers: the refusal number, 0 where it is accepted, the new record, whether all rows are done, and how many
 // points its rows lowered.
@@ -52,12 +53,14 @@ fn work_rows(run: Record, levels: &mut [u16], count: usize) -> usize
     ensures { (levels.new ≡ scan_rows (area_of run) run.rows count levels.old) ×
         (result ≡ rows_lowered (area_of run) run.rows count levels.old) }
 {
-    let width = records::area_width(run);
-    let height = records::area_height(run);
-    let cells = kinds::scan_cells(run);
-    let beyond = kinds::beyond_of(run);
+    let area = Area {
+        width: records::area_width(run),
+        height: records::area_height(run),
+        beyond: kinds::beyond_of(run),
+        cells: kinds::scan_cells(run),
+    };
     let reach = (run.side - 1) / 2;
-    scan::scan_rows(levels, width, height, run.rows, count, reach, cells, beyond)
+    scan::scan_rows(levels, &area, run.rows, count, reach)
 }
 
 // The record with other rows done.
@@ -88,7 +91,7 @@ pub fn continue_run(run: Record, levels: &mut [u16], allowance: usize) -> Contin
     }
     let rows = run.rows;
     let due = records::rows_due(run);
-    let count = scan::lesser(allowance, due - rows);
+    let count = allowance.min(due - rows);
     let lowered = work_rows(run, levels, count);
     let next = with_rows(run, rows + count);
     Continued {

@@ -109,7 +109,7 @@ pub fn below_held(run: Record, size: usize) -> u16
     requires { (run.cap ≤ highest_cap) × (size ≤ largest_size) }
     ensures { result ≡ low_of run size }
 {
-    let most = scan::lesser(size, run.cap);
+    let most = size.min(run.cap);
     by_kind(run, size as u16, 0, most as u16 + 1)
 }
 

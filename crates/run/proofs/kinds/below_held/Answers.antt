@@ -6,12 +6,12 @@ use mathlib.Core.Path.{ap, ◌∙◌}
 use Rattle.run.proofs.kinds.below_held.Goals as goal
 
 pub overflow_cast-most : goal.overflow_cast-most
-overflow_cast-most c = let small = c.requires in let e = c.lesser-most.ensures in omega arith
+overflow_cast-most c = let small = c.requires in let e = c.min-most.ensures in omega arith
 
 pub overflow_add-most : goal.overflow_add-most
-overflow_add-most c = let small = c.requires in let e = c.lesser-most.ensures in omega arith
+overflow_add-most c = let small = c.requires in let e = c.min-most.ensures in omega arith
 
 pub returns : goal.returns
 returns c =
     let args = c.args in
-    c.by_kind.ensures ∙ ap (λ most. by_kind (kind_of args.run) args.size 0 (most + 1)) c.lesser-most.ensures
+    c.by_kind.ensures ∙ ap (λ most. by_kind (kind_of args.run) args.size 0 (most + 1)) c.min-most.ensures
