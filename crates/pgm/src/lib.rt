@@ -22,6 +22,7 @@ fn wide(level: u16) -> usize
 }
 
 // Whether a number of `size` digits stays on a line of `column` characters, as long as the sum fits.
+#[tactic(auto, unfolding(crate::specs::PgmText::stays))]
 fn stays_on(column: usize, size: usize) -> bool
     requires { column + 1 + size < 18446744073709551616 }
     ensures { result ≡ stays column size }
@@ -30,25 +31,25 @@ fn stays_on(column: usize, size: usize) -> bool
 }
 
 // The byte before that number: a blank, or the end of the line before.
+#[tactic(auto, unfolding(crate::specs::PgmText::parting))]
 fn parting_byte(column: usize, size: usize) -> u8
     requires { column + 1 + size < 18446744073709551616 }
     ensures { result ≡ parting column size }
 {
-    if stays_on(column, size) {
-        return 32;
-    }
-    10
+    if stays_on(column, size) { b' ' } else { b'\n' }
 }
 
 // The characters of its line up to its end.
+#[tactic(auto, unfolding(crate::specs::PgmText::column_after))]
 fn column_after(column: usize, size: usize) -> usize
     requires { column + 1 + size < 18446744073709551616 }
     ensures { result ≡ column_after column size }
 {
     if stays_on(column, size) {
-        return column + 1 + size;
+        column + 1 + size
+    } else {
+        size
     }
-    size
 }
 
 // Writes a level that follows `column` characters of a line: its digits, and before them what parts it from the number before.
@@ -58,8 +59,7 @@ fn write_parted(level: usize, column: usize, out: &mut [u8], at: usize) -> usize
     ensures { Wrote (parting column (length (digits level)) ∷ digits level) at out.old out.new result }
 {
     let next = decimal::write_number(level, out, at + 1);
-    let byte = parting_byte(column, next - at - 1);
-    out[at] = byte;
+    out[at] = parting_byte(column, next - at - 1);
     next
 }
 
@@ -70,14 +70,12 @@ fn write_rest(rest: &[u16], start: usize, out: &mut [u8], at: usize) -> usize
 {
     let mut column = start;
     let mut end = at;
-    let mut i = 0;
-    while i < rest.len() {
-        let next = write_parted(wide(rest[i]), column, out, end);
+    for &level in rest {
+        let next = write_parted(usize::from(level), column, out, end);
         column = column_after(column, next - end - 1);
         end = next;
-        i += 1;
     }
-    out[end] = 10;
+    out[end] = b'\n';
     end + 1
 }
 
@@ -86,7 +84,7 @@ fn write_row(row: &[u16], out: &mut [u8], at: usize) -> usize
     requires { (0 < length row.now) × (at + length (frame_row row.now) ≤ length out.old) }
     ensures { Wrote (frame_row row.now) at out.old out.new result }
 {
-    let next = decimal::write_number(wide(row[0]), out, at);
+    let next = decimal::write_number(usize::from(row[0]), out, at);
     write_rest(&row[1..], next - at, out, next)
 }
 
@@ -97,47 +95,14 @@ fn write_levels(width: usize, height: usize, levels: &[u16], out: &mut [u8], at:
     ensures { Wrote (levels_text width height levels.now) at out.old out.new result }
 {
     let mut end = at;
-    let mut from = 0;
-    let mut i = 0;
-    while i < height {
-        let stop = from + width;
-        end = write_row(&levels[from..stop], out, end);
-        from = stop;
-        i += 1;
+    for row in levels.chunks_exact(width) {
+        end = write_row(row, out, end);
     }
     end
 }
 
-// Writes the magic number and the remark, whose line does not end yet.
-fn write_remark(magic: &[u8], done: usize, due: usize, out: &mut [u8], at: usize) -> usize
-    requires { at + length (line magic.now ++ rows_remark done due) ≤ length out.old }
-    ensures { Wrote (line magic.now ++ rows_remark done due) at out.old out.new result }
-{
-    let next = text::write_bytes(magic, out, at);
-    text::write_pair(b"\n# rows ", done, b" of ", due, out, next)
-}
-
-// Ends a line, and writes the maximum in the next.
-fn write_maximum(maximum: usize, out: &mut [u8], at: usize) -> usize
-    requires { at + length ((10 ∷ digits maximum) ++ (10 ∷ [])) ≤ length out.old }
-    ensures { Wrote ((10 ∷ digits maximum) ++ (10 ∷ [])) at out.old out.new result }
-{
-    let next = text::write_labelled(b"\n", maximum, out, at);
-    text::write_bytes(b"\n", out, next)
-}
-
-// Ends the remark's line, and writes the lines of the sides and the maximum.
-fn write_sizes(width: usize, height: usize, maximum: usize, out: &mut [u8], at: usize) -> usize
-    requires { at + length (((10 ∷ digits width) ++ (32 ∷ digits height)) ++ ((10 ∷ digits maximum) ++ (10 ∷ []))) ≤ length
-        out.old }
-    ensures { Wrote (((10 ∷ digits width) ++ (32 ∷ digits height)) ++ ((10 ∷ digits maximum) ++ (10 ∷ []))) at
-        out.old out.new result }
-{
-    let next = text::write_pair(b"\n", width, b" ", height, out, at);
-    write_maximum(maximum, out, next)
-}
-
 // Writes the header.
+#[tactic(auto, unfolding(crate::specs::PgmText::pgm_header))]
 pub fn write_header(
     magic: &[u8],
     done: usize,
@@ -152,8 +117,11 @@ pub fn write_header(
     ensures { Wrote (pgm_header magic.now done due width height maximum) at out.old
         out.new result }
 {
-    let next = write_remark(magic, done, due, out, at);
-    write_sizes(width, height, maximum, out, next)
+    let next = text::write_bytes(magic, out, at);
+    let next = text::write_pair(b"\n# rows ", done, b" of ", due, out, next);
+    let next = text::write_pair(b"\n", width, b" ", height, out, next);
+    let next = text::write_labelled(b"\n", maximum, out, next);
+    text::write_bytes(b"\n", out, next)
 }
 
 // The length of a header whose magic number has two bytes.
@@ -181,10 +149,8 @@ fn levels_length(levels: &[u16]) -> usize
     ensures { (result ≡ levels_size levels.now) × (result ≤ 6 * (longest_side * longest_side)) }
 {
     let mut sum = 0;
-    let mut i = 0;
-    while i < levels.len() {
-        sum += decimal::digit_count(wide(levels[i])) + 1;
-        i += 1;
+    for &level in levels {
+        sum += decimal::digit_count(usize::from(level)) + 1;
     }
     sum
 }
