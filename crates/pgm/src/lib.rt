@@ -5,14 +5,23 @@ pub mod finished;
 
 ghost use Rattle.std.specs.Prelude.{◌≡◌, ◌∷◌, [], ◌++◌, ◌+◌, ◌-◌, ◌*◌, ◌<◌, ◌≤◌, length};
 ghost use Rattle.decimal.specs.Numbers.{digits};
-ghost use Rattle.pgm.specs.PgmText.{line, rows_remark, pgm_header, stays, parting, column_after, level_row, frame_row};
-ghost use Rattle.pgm.specs.PgmText.{levels_text, pgm_text};
+ghost use Rattle.pgm.specs.PgmText.{stays, parting, column_after, level_row, frame_row, levels_text};
 ghost use Rattle.text.specs.Writing.{begun, Wrote};
 ghost use Rattle.basics.specs.Limits.{longest_side};
-ghost use Rattle.pgm.specs.Writing.{levels_size, level_end, SmallNumbers, Picture};
+ghost use Rattle.pgm.specs.Writing.{levels_size, level_end, header_text, picture_text, SmallHeader, IsPicture};
 
 // The characters of a line, its end not counted.
 const LINE_WIDTH: usize = 70;
+
+// What the lines before the levels state: the rows done and due, the sides, and the maximum.
+#[derive(Clone, Copy)]
+pub struct Header {
+    pub done: usize,
+    pub due: usize,
+    pub width: usize,
+    pub height: usize,
+    pub maximum: usize,
+}
 
 // A level has 16 bits.
 fn wide(level: u16) -> usize
@@ -101,46 +110,29 @@ fn write_levels(width: usize, height: usize, levels: &[u16], out: &mut [u8], at:
     end
 }
 
-// Writes the header.
+// Writes the header, which begins with the magic number of its format.
 #[tactic(auto, unfolding(crate::specs::PgmText::pgm_header))]
-pub fn write_header(
-    magic: &[u8],
-    done: usize,
-    due: usize,
-    width: usize,
-    height: usize,
-    maximum: usize,
-    out: &mut [u8],
-    at: usize,
-) -> usize
-    requires { at + length (pgm_header magic.now done due width height maximum) ≤ length out.old }
-    ensures { Wrote (pgm_header magic.now done due width height maximum) at out.old
-        out.new result }
+pub fn write_header(magic: &[u8], header: Header, out: &mut [u8], at: usize) -> usize
+    requires { at + length (header_text magic.now header) ≤ length out.old }
+    ensures { Wrote (header_text magic.now header) at out.old out.new result }
 {
     let next = text::write_bytes(magic, out, at);
-    let next = text::write_pair(b"\n# rows ", done, b" of ", due, out, next);
-    let next = text::write_pair(b"\n", width, b" ", height, out, next);
-    let next = text::write_labelled(b"\n", maximum, out, next);
+    let next = text::write_pair(b"\n# rows ", header.done, b" of ", header.due, out, next);
+    let next = text::write_pair(b"\n", header.width, b" ", header.height, out, next);
+    let next = text::write_labelled(b"\n", header.maximum, out, next);
     text::write_bytes(b"\n", out, next)
 }
 
 // The length of a header whose magic number has two bytes.
-pub fn header_length(
-    magic: &[u8],
-    done: usize,
-    due: usize,
-    width: usize,
-    height: usize,
-    maximum: usize,
-) -> usize
-    requires { (length magic.now ≡ 2) × SmallNumbers done due width height maximum }
-    ensures { result ≡ length (pgm_header magic.now done due width height maximum) }
+pub fn header_length(magic: &[u8], header: Header) -> usize
+    requires { (length magic.now ≡ 2) × SmallHeader header }
+    ensures { result ≡ length (header_text magic.now header) }
 {
-    18 + decimal::digit_count(done)
-        + decimal::digit_count(due)
-        + decimal::digit_count(width)
-        + decimal::digit_count(height)
-        + decimal::digit_count(maximum)
+    18 + decimal::digit_count(header.done)
+        + decimal::digit_count(header.due)
+        + decimal::digit_count(header.width)
+        + decimal::digit_count(header.height)
+        + decimal::digit_count(header.maximum)
 }
 
 // The length of the levels' text: a byte parts each number from the next, wherever the lines end.
@@ -156,35 +148,19 @@ fn levels_length(levels: &[u16]) -> usize
 }
 
 // The length of the text.
-pub fn pgm_length(
-    width: usize,
-    height: usize,
-    maximum: usize,
-    done: usize,
-    due: usize,
-    levels: &[u16],
-) -> usize
-    requires { Picture width height maximum done due levels.now }
-    ensures { result ≡ length (pgm_text width height maximum done due levels.now) }
+pub fn pgm_length(header: Header, levels: &[u16]) -> usize
+    requires { IsPicture header levels.now }
+    ensures { result ≡ length (picture_text header levels.now) }
 {
-    header_length(b"P2", done, due, width, height, maximum) + levels_length(levels)
+    header_length(b"P2", header) + levels_length(levels)
 }
 
 // Writes the text at the front of `out`, which has room for it, and gives its length.
-pub fn write_pgm_text(
-    width: usize,
-    height: usize,
-    maximum: usize,
-    done: usize,
-    due: usize,
-    levels: &[u16],
-    out: &mut [u8],
-) -> usize
-    requires { (Picture width height maximum done due levels.now) ×
-        (length (pgm_text width height maximum done due levels.now) ≤ length out.old) }
-    ensures { (result ≡ length (pgm_text width height maximum done due levels.now)) ×
-        (out.new ≡ begun (pgm_text width height maximum done due levels.now) out.old) }
+pub fn write_pgm_text(header: Header, levels: &[u16], out: &mut [u8]) -> usize
+    requires { IsPicture header levels.now × (length (picture_text header levels.now) ≤ length out.old) }
+    ensures { (result ≡ length (picture_text header levels.now)) ×
+        (out.new ≡ begun (picture_text header levels.now) out.old) }
 {
-    let start = write_header(b"P2", done, due, width, height, maximum, out, 0);
-    write_levels(width, height, levels, out, start)
+    let start = write_header(b"P2", header, out, 0);
+    write_levels(header.width, header.height, levels, out, start)
 }

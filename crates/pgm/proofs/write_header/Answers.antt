@@ -7,7 +7,8 @@ use Rattle.pgm.proofs.write_header.Goals as goal
 pub returns : goal.returns
 returns c =
     let args = c.args in
-    let made = header_made args.magic.now args.done args.due args.width args.height args.maximum in
+    let h = args.header in
+    let made = header_made args.magic.now h.done h.due h.width h.height h.maximum in
     let room = fits_as _ _ args.at (length args.out.now) made c.requires in
     let before_end = room_first _ _ _ _ room in
     let before_maximum = room_first _ _ _ _ before_end in

@@ -1,7 +1,6 @@
 -- The first number begins a line, and the rest follows it.
 use Rattle.text.proofs.WroteLaws.{wrote_number}
 use Rattle.pgm.proofs.RowLaws.{row_first, row_rest, row_wrote}
-
 use Rattle.pgm.proofs.write_row.Goals as goal
 
 pub write_number-next-requires : goal.write_number-next-requires
