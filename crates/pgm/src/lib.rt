@@ -124,6 +124,7 @@ pub fn write_header(magic: &[u8], header: Header, out: &mut [u8], at: usize) -> 
 }
 
 // The length of a header whose magic number has two bytes.
+#[tactic(auto, using(crate::proofs::SizeLaws::header_size, crate::proofs::SizeLaws::header_bound))]
 pub fn header_length(magic: &[u8], header: Header) -> usize
     requires { (length magic.now ≡ 2) × SmallHeader header }
     ensures { result ≡ length (header_text magic.now header) }
@@ -156,6 +157,7 @@ pub fn pgm_length(header: Header, levels: &[u16]) -> usize
 }
 
 // Writes the text at the front of `out`, which has room for it, and gives its length.
+#[tactic(auto, unfolding(crate::specs::PgmText::pgm_text))]
 pub fn write_pgm_text(header: Header, levels: &[u16], out: &mut [u8]) -> usize
     requires { IsPicture header levels.now × (length (picture_text header levels.now) ≤ length out.old) }
     ensures { (result ≡ length (picture_text header levels.now)) ×
