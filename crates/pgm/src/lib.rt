@@ -98,13 +98,13 @@ fn write_row(row: &[u16], out: &mut [u8], at: usize) -> usize
 }
 
 // Writes the frame rows one after the other.
-fn write_levels(width: usize, height: usize, levels: &[u16], out: &mut [u8], at: usize) -> usize
-    requires { (0 < width) ×
-        ((length levels.now ≡ height * width) × (at + length (levels_text width height levels.now) ≤ length out.old)) }
-    ensures { Wrote (levels_text width height levels.now) at out.old out.new result }
+fn write_levels(header: Header, levels: &[u16], out: &mut [u8], at: usize) -> usize
+    requires { (0 < header.width) × ((length levels.now ≡ header.height * header.width) ×
+        (at + length (levels_text header.width header.height levels.now) ≤ length out.old)) }
+    ensures { Wrote (levels_text header.width header.height levels.now) at out.old out.new result }
 {
     let mut end = at;
-    for row in levels.chunks_exact(width) {
+    for row in levels.chunks_exact(header.width) {
         end = write_row(row, out, end);
     }
     end
@@ -164,5 +164,5 @@ pub fn write_pgm_text(header: Header, levels: &[u16], out: &mut [u8]) -> usize
         (out.new ≡ begun (picture_text header levels.now) out.old) }
 {
     let start = write_header(b"P2", header, out, 0);
-    write_levels(header.width, header.height, levels, out, start)
+    write_levels(header, levels, out, start)
 }
