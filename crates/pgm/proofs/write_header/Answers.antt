@@ -1,8 +1,13 @@
 -- The pieces one after the other.
-use Rattle.std.proofs.Common.{length}
+use Rattle.std.proofs.Common.{ℕ, length, length-append, arith}
 use Rattle.text.proofs.WroteLaws.{room_first, wrote_both, wrote_as, fits_as}
 use Rattle.pgm.proofs.HeaderLaws.{header_made}
+use Rattle.pgm.specs.PgmText.{pgm_header}
 use Rattle.pgm.proofs.write_header.Goals as goal
+
+pub write_bytes-requires : goal.write_bytes-requires
+unfolding pgm_header
+write_bytes-requires c = grind (arith, length-append {A = ℕ})
 
 pub returns : goal.returns
 returns c =
