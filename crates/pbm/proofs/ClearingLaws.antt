@@ -1,18 +1,17 @@
 -- The loop that clears padding: the rows before it are the packed sheet's, the others are still as they were copied. A row's last
 -- byte loses as many bits as the row has padding; any other is the packed sheet's as it is.
-use Prim.Native.Nat.{ℕ, suc, ◌+◌, ◌-◌, ◌*◌, ◌/◌, ◌%◌, ◌^◌, ◌≤◌, ◌<◌, min}
+use Prim.Native.Nat.{ℕ, ◌+◌, ◌-◌, ◌*◌, ◌/◌, ◌%◌, ◌^◌, ◌≤◌, ◌<◌, min}
 use native.Mathlib.Nat.{mod-one, mod-eq_of_lt, suc-mul, div-add-mod'}
 use native.Mathlib.Numerals.{add-one}
 use native.Mathlib.Decide.{dec_lt, ℕ_discrete}
 use native.Mathlib.Omega.{arith}
 use mathlib.Core.Path.{◌≡◌, refl, sym, ap, ap₂, ◌∙◌}
-use mathlib.Core.Logic.{◌≢◌}
 use mathlib.Core.List.{List, ◌++◌}
 use lib.ListN.{length, get_or, take, drop, set, length-set, length-append, length-drop, get_or-append, take-append-drop}
 use lib.Seq.{drop-append_seam, length-take-le, drop-set-lt, get_or-set_same}
 use Rattle.std.proofs.lemmas.List.{get_or-take, get_or-set_other}
-use Rattle.basics.specs.Tables.{table, raster}
-use Rattle.basics.proofs.Arithmetic.{column_of, column_below, entry_of, entry_below}
+use Rattle.basics.specs.Tables.{raster}
+use Rattle.basics.proofs.Arithmetic.{column_of, entry_of, entry_below}
 use Rattle.basics.proofs.TableLaws.{length-table, table_is}
 use Rattle.sheet.specs.Sheets.{row_bytes, pixel, byte_packed, packed}
 use Rattle.text.specs.Writing.{begun}

@@ -3,12 +3,13 @@ use Prim.Native.Nat.{ℕ, ◌+◌, ◌≤◌, ◌<◌, min}
 use native.Mathlib.Decide.{dec_lt, ℕ_discrete}
 use native.Mathlib.Omega.{arith}
 use mathlib.Core.Path.{◌≡◌, refl, sym, ap, ap₂, ◌∙◌}
-use mathlib.Core.Bool.{Bool, true, false, not, ◌&&◌, true≢false, false≢true}
+use mathlib.Core.Bool.{Bool, true, false, not, true≢false, false≢true}
 use mathlib.Core.Logic.{◌≢◌}
 use mathlib.Core.List.{List, [], ◌∷◌}
 use lib.Dec.{eqb}
-use lib.ListN.{length, get_or, drop, length-drop}
+use lib.ListN.{length, drop, length-drop}
 use lib.Seq.{drop-drop}
+use Rattle.std.proofs.Math.Bool.{and-true}
 use borrow.Author.Tests.{lt-ltb, eq-eqb, ne_eqb, not-true, not-false}
 use Rattle.std.proofs.Common.{Bor, Option, None, Some, MatchOption}
 use Rattle.std.proofs.lemmas.Grind.{get_or_default_zero}
@@ -35,11 +36,7 @@ pub p4_is : (file : List ℕ) → starts_with eqb file (80 ∷ 52 ∷ []) ≡ be
 unfolding begins_p4
 p4_is [] = refl
 p4_is (a ∷ []) = rw (eqb_turned 80 a)
-p4_is (a ∷ b ∷ rest) = rw (eqb_turned 80 a, eqb_turned 52 b) (go (eqb b 52))
-  where
-    go : (t : Bool) → eqb a 80 && (t && true) ≡ eqb a 80 && t
-    go true = refl
-    go false = refl
+p4_is (a ∷ b ∷ rest) = rw (eqb_turned 80 a, eqb_turned 52 b, and-true)
 
 -- a number: white from `at` to `start`, digits from there to `next`
 module _ (file : List ℕ) (at start : ℕ) (e : start ≡ at + length (white_run (drop at file))) where

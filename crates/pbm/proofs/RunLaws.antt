@@ -1,10 +1,9 @@
 -- Rows of bytes of one kind. The run at the front of a list ends with the list, and at a byte of another kind; so what is all
 -- of one kind, with such an end after it, is the run.
-use Prim.Native.Nat.{ℕ, suc, ◌+◌, ◌≤◌, ◌<◌}
-use native.Mathlib.Numerals.{add-one}
+use Prim.Native.Nat.{ℕ, suc, ◌≤◌, ◌<◌}
 use native.Mathlib.Omega.{arith}
-use mathlib.Core.Path.{◌≡◌, refl, sym, ap, ◌∙◌}
-use mathlib.Core.Bool.{Bool, true, false, not, cond, ◌&&◌, false≢true}
+use mathlib.Core.Path.{◌≡◌, refl, ap, ◌∙◌}
+use mathlib.Core.Bool.{Bool, true, false, not, cond, ◌&&◌}
 use mathlib.Core.Logic.{◌≢◌}
 use mathlib.Core.List.{List, [], ◌∷◌, ◌++◌}
 use lib.ListN.{length, get_or, take, drop, length-append, drop_of_length-le}
@@ -12,12 +11,9 @@ use lib.Seq.{drop-cons}
 use Rattle.std.proofs.lemmas.List.Sums.{take_while-cons}
 use Rattle.std.specs.List.{prefix_len}
 use borrow.Author.Tests.{ne_eqb, eqb-false}
+use Rattle.basics.proofs.BoundLaws.{both}
 use Rattle.decimal.specs.Numbers.{is_digit, digits_only, digit_run}
 use Rattle.pbm.specs.Header.{all, run, is_none}
-
-pub both : (a b : Bool) → a && b ≡ true → (a ≡ true) × (b ≡ true)
-both true b e = (refl, e)
-both false b e = absurd (false≢true e)
 
 module _ (kind : ℕ → Bool) where
   run_end : run kind [] ≡ []

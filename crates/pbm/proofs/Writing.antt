@@ -16,7 +16,7 @@ use Rattle.decimal.proofs.NumberLaws.{length_below}
 use Rattle.sheet.specs.Sheets.{row_bytes, sheet_refusals}
 use Rattle.sheet.proofs.FrameLaws.{frame_sides, raster_small, sheet_accepted}
 use Rattle.text.specs.Writing.{begun, Wrote}
-use Rattle.text.proofs.WroteLaws.{fits_as, room_first, room_second, wrote_both, wrote_as, wrote_length, wrote_front, wrote_part}
+use Rattle.text.proofs.WroteLaws.{wrote_both, wrote_length, wrote_front, wrote_part}
 use Rattle.text.proofs.WroteLaws.{part_is}
 use Rattle.pbm.specs.Pbm.{cleared, pbm_header, pbm_text, room_refusals, WritesPbm}
 use Rattle.pbm.proofs.PackingLaws.{length_cleared}

@@ -1,4 +1,4 @@
--- The rows are as many as the loop's turns.
+-- Each turn clears one row; after the last, all of them are.
 use Rattle.std.proofs.Common.{arith, ap, ◌*◌}
 use Rattle.pbm.proofs.ClearingLaws.{clearing_start, clearing_turn, clearing_end}
 use Rattle.pbm.proofs.copy_cleared.Goals as goal

@@ -1,5 +1,5 @@
 -- Each answer follows from what the two numbers and the byte after them were.
-use Rattle.std.proofs.Common.{◌≡◌, ◌∙◌, sym, true, false, Bool, not, drop, MatchOption, rules, tests, arith}
+use Rattle.std.proofs.Common.{◌≡◌, ◌∙◌, sym, true, false, not, drop, MatchOption, rules, tests}
 use Rattle.std.proofs.lemmas.Option.{MatchOption-at_some, MatchOption-at_none}
 use Rattle.std.proofs.lemmas.Result.{err_from_is_err_and}
 use Rattle.basics.specs.declared.refusal.Refusal.TheVariants.{Header}
@@ -11,7 +11,7 @@ use Rattle.pbm.proofs.HeaderLaws.{white_there}
 use Rattle.pbm.proofs.read_header.Goals as goal
 use Rattle.pbm.proofs.read_header.Goals.{After-is_some_and}
 
--- the second number, with the first, was read, and a byte looked at after them
+-- what is known where "P4" and both numbers were read, and the byte after them looked at
 p4 : (c : After-is_some_and) → begins_p4 c.args.file.now ≡ true
 p4 c = sym (p4_is c.args.file.now) ∙ sym c.starts_with.ensures.value ∙ c.if-not-starts_with.false
 

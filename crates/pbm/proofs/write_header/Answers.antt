@@ -1,9 +1,8 @@
 -- The sides after "P4", and LF after them.
-use Rattle.std.proofs.Common.{ℕ, arith, length}
+use Rattle.std.proofs.Common.{arith, length}
 use Rattle.pbm.proofs.Writing.{header_pieces, length_header}
 use Rattle.text.proofs.WroteLaws.{fits_as, wrote_both, wrote_as}
 use Rattle.std.proofs.Math.ListN.{length-append}
-use Rattle.decimal.specs.Numbers.{digits}
 use Rattle.pbm.proofs.write_header.Goals as goal
 
 pub write_pair-end-requires : goal.write_pair-end-requires
