@@ -38,13 +38,14 @@ module _ (width : ℕ) (bytes : List ℕ) (k : ℕ) (byte : get_or bytes k 0 < 2
       → get_or bytes k 0 / 2 ^ padding * 2 ^ padding % 256 ≡ packed_at width bytes k
   packed_last one l padding e =
       let kept = min (width - k % row_bytes width * 8) 8 in
+      let b = get_or bytes k 0 in
       let p : padding ≡ 8 - kept = omega arith in
-      let d = div-add-mod' (get_or bytes k 0) (2 ^ padding) in
-      mod-eq_of_lt {n = get_or bytes k 0 / 2 ^ padding * 2 ^ padding} {m = 256} (omega arith)
-      ∙ (let s : get_or bytes k 0 / 2 ^ padding * 2 ^ padding ≡ get_or bytes k 0 - get_or bytes k 0 % 2 ^ padding = omega arith in
-      s) ∙ ap (λ n. get_or bytes k 0 - get_or bytes k 0 % 2 ^ n) p
-      ∙ sym (packed_byte width bytes (k / row_bytes width) (k % row_bytes width) kept (omega arith) refl (get_or bytes k 0) place byte)
+      let d = div-add-mod' b (2 ^ padding) in
+      let s : b / 2 ^ padding * 2 ^ padding ≡ b - b % 2 ^ padding = omega arith in
+      mod-eq_of_lt {n = b / 2 ^ padding * 2 ^ padding} {m = 256} (omega arith) ∙ s ∙ ap (λ n. b - b % 2 ^ n) p
+      ∙ sym (packed_byte width bytes (k / row_bytes width) (k % row_bytes width) kept (omega arith) refl b place byte)
 
+-- what the loop keeps
 pub record Clearing (width height : ℕ) (bytes out : List ℕ) (rows : ℕ) (now : List ℕ) : Type 0 where
   pub size : length now ≡ length out
   pub done : (k : ℕ) → k < rows * row_bytes width → get_or now k 0 ≡ packed_at width bytes k
@@ -115,7 +116,8 @@ module _ {width height : ℕ} {bytes out : List ℕ} (there : height * row_bytes
         get_or-set_other now last k stored 0 n ∙ h.copied k (omega arith) (omega arith)
         ∙ sym (packed_inner width bytes k (byte k) (inner_column k (omega arith) m))
 
-    pub clearing_turn : Clearing width height bytes out (rows + 1) (set now last (get_or now last 0 / 2 ^ padding * 2 ^ padding % 256))
+    pub clearing_turn : Clearing width height bytes out (rows + 1)
+        (set now last (get_or now last 0 / 2 ^ padding * 2 ^ padding % 256))
     unfolding stored
     clearing_turn =
         let w = last_within in

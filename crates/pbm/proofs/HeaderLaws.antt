@@ -173,7 +173,8 @@ module _ (file : List ℕ) where
             where
               go : Dec (end < length file) → end + 1 ≤ length file
               go (yes l) = omega arith
-              go (no l) = absurd (true≢false (z ∙ ap not (run_none is_white file end (let h : length file ≤ end = omega arith in h))))
+              go (no l) = absurd (true≢false
+                  (z ∙ ap not (run_none is_white file end (let h : length file ≤ end = omega arith in h))))
 
           pub found_header : (refusal : ℕ) → refusal ≡ first (frame_refusals width height)
               → HeaderRead file refusal width height (end + 1)

@@ -88,7 +88,8 @@ laid_field bytes amount rest e = go (is_none (white_run bytes)) (is_none (digit_
         record {
           white = white_run bytes;
           row = digit_run (after_white bytes);
-          bytes_are = run_front is_white bytes ∙ ap (λ l. white_run bytes ++ l) (f ∙ ap (λ l. digit_run (after_white bytes) ++ l) r);
+          bytes_are = run_front is_white bytes
+              ∙ ap (λ l. white_run bytes ++ l) (f ∙ ap (λ l. digit_run (after_white bytes) ++ l) r);
           some_white = not_empty (white_run bytes) p;
           some_digits = not_empty (digit_run (after_white bytes)) q;
           all_white = run_all is_white bytes;

@@ -63,7 +63,8 @@ module _ (file out : List ℕ) where
 
   pub header_refuses : {number width height at : ℕ} → HeaderRead file number width height at → number ≢ 0
       → ReadsPbm file out number 0 0 out
-  header_refuses {number} r n = refuses number n (judged_first (header_refusals file) (body_refusals (header file) out) n r.first_is)
+  header_refuses {number} r n = refuses number n
+      (judged_first (header_refusals file) (body_refusals (header file) out) n r.first_is)
 
   module _ {width height at : ℕ} (r : HeaderRead file 0 width height at) where
     found : header file ≡ whole width height (drop at file)

@@ -59,8 +59,8 @@ pub returns-in_err-check_frame : goal.returns-in_err-check_frame
 returns-in_err-check_frame c =
     let at = (goal.at.returns-in_err-check_frame c).After-is_some_and in
     let p = err_from_is_err_and c.from_residual-in_err-check_frame.result c.from_residual-in_err-check_frame.ensures.1 in
-    rw (p.1, p.2) (lost_frame c.args.file.now (p4 at) (width_read at) (height_read at) (sym c.if-not-is_some_and.false ∙ white_read at)
-    _ (number_positive _) c.in_err-check_frame.ensures)
+    rw (p.1, p.2) (lost_frame c.args.file.now (p4 at) (width_read at) (height_read at)
+    (sym c.if-not-is_some_and.false ∙ white_read at) _ (number_positive _) c.in_err-check_frame.ensures)
 
 pub returns : goal.returns
 returns c =
