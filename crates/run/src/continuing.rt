@@ -20,10 +20,9 @@ pub struct Continued {
 fn refused(number: u32) -> Continued
     ensures { result ≡ record { refusal = number; run = empty_record; done = false; lowered = 0 } }
 {
-    let run = records::no_record();
     Continued {
         refusal: number,
-        run,
+        run: records::NO_RECORD,
         done: false,
         lowered: 0,
     }
@@ -64,17 +63,7 @@ fn work_rows(run: Record, levels: &mut [u16], count: usize) -> usize
 fn with_rows(run: Record, rows: usize) -> Record
     ensures { result ≡ with_rows run rows }
 {
-    let cells = run.cells;
-    Record {
-        kind: run.kind,
-        width: run.width,
-        height: run.height,
-        cap: run.cap,
-        side: run.side,
-        rows,
-        cells,
-        edge: run.edge,
-    }
+    Record { rows, ..run }
 }
 
 // Public: works the allowance or what is due, the lesser. Refusals 1, 10, 12.
@@ -88,7 +77,7 @@ pub fn continue_run(run: Record, levels: &mut [u16], allowance: usize) -> Contin
     }
     let rows = run.rows;
     let due = records::rows_due(run);
-    let count = scan::lesser(allowance, due - rows);
+    let count = allowance.min(due - rows);
     let lowered = work_rows(run, levels, count);
     let next = with_rows(run, rows + count);
     Continued {

@@ -1,4 +1,4 @@
--- The refusal is judged first; then the allowance or what is due, the lesser, is worked.
+-- The refusal is judged first; then the allowance or what is due, the min_count, is worked.
 use Rattle.run.proofs.RecordLaws.{not_bad}
 use Rattle.run.proofs.ContinueLaws.{continue_refuses, continue_accepted, continue_accepts}
 use native.Mathlib.Omega.{arith}
@@ -35,7 +35,7 @@ work_rows-lowered-requires c =
     let q = continue_accepted args.run args.levels.now args.allowance (sym continue_refusal.ensures ∙ if1.false) in
     let b = not_bad args.run q.0 in
     let e = c.rows_due-due.ensures.0 in
-    let l = c.lesser-count.ensures in
+    let l = c.min-count.ensures in
     let h = b.1 in
     (b.0, (q.1, omega arith))
 
@@ -45,11 +45,11 @@ overflow_add-rows c =
     let continue_refusal = c.continue_refusal-refusal in
     let if1 = c.if-refusal-ne0 in
     let rows_due = c.rows_due-due in
-    let lesser = c.lesser-count in
+    let min_count = c.min-count in
     let b = (not_bad args.run
     (continue_accepted args.run args.levels.now args.allowance (sym continue_refusal.ensures ∙ if1.false)).0).1 in
     let e = rows_due.ensures in
-    let l = lesser.ensures in
+    let l = min_count.ensures in
     omega arith
 
 pub overflow_add-result : goal.overflow_add-result
@@ -58,11 +58,11 @@ overflow_add-result c =
     let continue_refusal = c.continue_refusal-refusal in
     let if1 = c.if-refusal-ne0 in
     let rows_due = c.rows_due-due in
-    let lesser = c.lesser-count in
+    let min_count = c.min-count in
     let b = (not_bad args.run
     (continue_accepted args.run args.levels.now args.allowance (sym continue_refusal.ensures ∙ if1.false)).0).1 in
     let e = rows_due.ensures in
-    let l = lesser.ensures in
+    let l = min_count.ensures in
     omega arith
 
 pub returns : goal.returns
@@ -71,9 +71,9 @@ returns c =
     let continue_refusal = c.continue_refusal-refusal in
     let if1 = c.if-refusal-ne0 in
     let rows_due = c.rows_due-due in
-    let lesser = c.lesser-count in
+    let min_count = c.min-count in
     let work_rows = c.work_rows-lowered in
     continue_accepts args.run args.levels.now args.allowance (sym continue_refusal.ensures ∙ if1.false)
-    c.with_rows-next.result work_rows.new.levels lesser.result rows_due.result work_rows.result
-    (lesser.ensures ∙ ap (λ n. min args.allowance (n - args.run.rows)) rows_due.ensures.0) rows_due.ensures.0
+    c.with_rows-next.result work_rows.new.levels min_count.result rows_due.result work_rows.result
+    (min_count.ensures ∙ ap (λ n. min args.allowance (n - args.run.rows)) rows_due.ensures.0) rows_due.ensures.0
     c.with_rows-next.ensures work_rows.ensures.0 work_rows.ensures.1

@@ -63,49 +63,28 @@ returns-then-not-all_done c =
     (collect_views args.run args.levels.now args.out.now) tt (sym judged ∙ if2.false)
     (sym all_done.ensures ∙ if3.true))
 
-pub margin_of-margin-requires : goal.margin_of-margin-requires
-margin_of-margin-requires c =
-    let args = c.args in
-    let record_bad = c.record_bad in
-    let if1 = c.if-record_bad in
-    let s = sound_record args.run (sym record_bad.ensures ∙ if1.false) in
+pub frame_of-requires : goal.frame_of-requires
+frame_of-requires c =
+    let s = sound_record c.args.run (sym c.record_bad.ensures ∙ c.if-record_bad.false) in
     (s.side_is, s.cap_small)
 
-pub reading_of-reading-requires : goal.reading_of-reading-requires
-reading_of-reading-requires c =
-    let args = c.args in
-    let record_bad = c.record_bad in
-    let if1 = c.if-record_bad in
-    (sound_record args.run (sym record_bad.ensures ∙ if1.false)).cap_small
+pub reading_of-requires : goal.reading_of-requires
+reading_of-requires c = (sound_record c.args.run (sym c.record_bad.ensures ∙ c.if-record_bad.false)).cap_small
 
 pub copy_frame-requires : goal.copy_frame-requires
 copy_frame-requires c =
     let args = c.args in
-    let record_bad = c.record_bad in
-    let if1 = c.if-record_bad in
-    let view_refusal = c.view_refusal-refusal in
-    let if2 = c.if-refusal-ne0 in
-    let margin_of = c.margin_of-margin in
-    let s = sound_record args.run (sym record_bad.ensures ∙ if1.false) in
-    let taken = view_taken args.run args.levels.now _ _ _ (sym view_refusal.ensures ∙ if2.false) in
-    (area_canvas s args.levels.now taken.1 margin_of.result margin_of.ensures.0, taken.2)
+    let s = sound_record args.run (sym c.record_bad.ensures ∙ c.if-record_bad.false) in
+    let taken = view_taken args.run args.levels.now _ _ _ (sym c.view_refusal-refusal.ensures ∙ c.if-refusal-ne0.false) in
+    rw c.frame_of.ensures.0 (area_canvas s args.levels.now taken.1, taken.2)
 
 pub returns : goal.returns
 returns c =
     let args = c.args in
-    let record_bad = c.record_bad in
-    let if1 = c.if-record_bad in
-    let view_refusal = c.view_refusal-refusal in
-    let if2 = c.if-refusal-ne0 in
-    let all_done = c.all_done in
-    let if3 = c.if-not-all_done in
-    let margin_of = c.margin_of-margin in
-    let reading_of = c.reading_of-reading in
-    let copy_frame = c.copy_frame in
-    let bad = sym record_bad.ensures ∙ if1.false in
-    let judged = collect_judged args.run args.levels.now args.out.now bad view_refusal.ensures in
+    let bad = sym c.record_bad.ensures ∙ c.if-record_bad.false in
+    let judged = collect_judged args.run args.levels.now args.out.now bad c.view_refusal-refusal.ensures in
     accepts _ (picture_released args.run (collect_views args.run args.levels.now args.out.now) tt
-    (sym judged ∙ if2.false) (sym all_done.ensures ∙ if3.false))
-    (copy_frame.ensures
-    ∙ is_collected (sound_record args.run bad) args.levels.now margin_of.result margin_of.ensures.0
-    reading_of.result reading_of.ensures)
+    (sym judged ∙ c.if-refusal-ne0.false) (sym c.all_done.ensures ∙ c.if-not-all_done.false))
+    (c.copy_frame.ensures
+    ∙ is_collected (sound_record args.run bad) args.levels.now c.frame_of.result c.frame_of.ensures.0
+    c.reading_of.result c.reading_of.ensures)

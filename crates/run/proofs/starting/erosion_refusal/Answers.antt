@@ -8,25 +8,25 @@ use Rattle.run.proofs.starting.erosion_refusal.Goals as goal
 pub returns-then-refusal-ne0 : goal.returns-then-refusal-ne0
 returns-then-refusal-ne0 c =
     let args = c.args in
-    erosion_common args.width args.height args.sheet.now args.side args.bytes.now args.levels.now
+    erosion_common args.input.width args.input.height args.sheet.now args.input.side args.bytes.now args.levels.now
     c.if-refusal-ne0.true c.start_refusal-refusal.ensures
 
-pub overflow_mul-height : goal.overflow_mul-height
-overflow_mul-height c =
+pub overflow_mul-input : goal.overflow_mul-input
+overflow_mul-input c =
     let args = c.args in
-    let j = judged args.width args.height args.sheet.now args.side args.bytes.now
+    let j = judged args.input.width args.input.height args.sheet.now args.input.side args.bytes.now
     (sym c.start_refusal-refusal.ensures ∙ c.if-refusal-ne0.false) in
-    let s = area_small args.height args.width j.high.1 j.wide.1 in
+    let s = area_small args.input.height args.input.width j.high.1 j.wide.1 in
     omega arith
 
-pub returns-then-levels-height : goal.returns-then-levels-height
-returns-then-levels-height c =
+pub returns-then-levels-input : goal.returns-then-levels-input
+returns-then-levels-input c =
     let args = c.args in
-    erosion_short args.width args.height args.sheet.now args.side args.bytes.now args.levels.now
-    (sym c.start_refusal-refusal.ensures ∙ c.if-refusal-ne0.false) c.if-levels-height.true
+    erosion_short args.input.width args.input.height args.sheet.now args.input.side args.bytes.now args.levels.now
+    (sym c.start_refusal-refusal.ensures ∙ c.if-refusal-ne0.false) c.if-levels-input.true
 
 pub returns : goal.returns
 returns c =
     let args = c.args in
-    erosion_fits args.width args.height args.sheet.now args.side args.bytes.now args.levels.now
-    (sym c.start_refusal-refusal.ensures ∙ c.if-refusal-ne0.false) c.if-levels-height.false
+    erosion_fits args.input.width args.input.height args.sheet.now args.input.side args.bytes.now args.levels.now
+    (sym c.start_refusal-refusal.ensures ∙ c.if-refusal-ne0.false) c.if-levels-input.false

@@ -13,23 +13,23 @@ returns-then-refusal-ne0 c =
 pub fresh_record-run-requires : goal.fresh_record-run-requires
 fresh_record-run-requires c =
     let args = c.args in
-    let t = erosion_taken args.width args.height args.sheet.now args.side args.bytes.now args.levels.now
+    let t = erosion_taken args.input.width args.input.height args.sheet.now args.input.side args.bytes.now args.levels.now
     (sym c.erosion_refusal-refusal.ensures ∙ c.if-refusal-ne0.false) in
-    let j = judged args.width args.height args.sheet.now args.side args.bytes.now t.0 in
+    let j = judged args.input.width args.input.height args.sheet.now args.input.side args.bytes.now t.0 in
     (j.element.side_is, j.element.size)
 
 pub fill_levels-requires : goal.fill_levels-requires
 fill_levels-requires c =
     let args = c.args in
     let erosion_refusal = c.erosion_refusal-refusal in
-    let t = erosion_taken args.width args.height args.sheet.now args.side args.bytes.now args.levels.now
+    let t = erosion_taken args.input.width args.input.height args.sheet.now args.input.side args.bytes.now args.levels.now
     (sym erosion_refusal.ensures ∙ c.if-refusal-ne0.false) in
-    let j = judged args.width args.height args.sheet.now args.side args.bytes.now t.0 in
+    let j = judged args.input.width args.input.height args.sheet.now args.input.side args.bytes.now t.0 in
     rw c.fresh_record-run.ensures (
       j.element.side_is,
       (
         omega arith,
-        (frame_canvas args.width args.height args.side args.levels.now j.wide.1 j.high.1 t.1, j.sheet_size_lem),
+        (frame_canvas args.input.width args.input.height args.input.side args.levels.now j.wide.1 j.high.1 t.1, j.sheet_size_lem),
       ),
     )
 

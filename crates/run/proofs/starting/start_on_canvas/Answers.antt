@@ -13,23 +13,23 @@ pub fresh_record-run-requires : goal.fresh_record-run-requires
 fresh_record-run-requires c =
     let args = c.args in
     let dilation_refusal = c.dilation_refusal-refusal in
-    let t = dilation_taken args.width args.height args.sheet.now args.side args.bytes.now args.cap
+    let t = dilation_taken args.input.width args.input.height args.sheet.now args.input.side args.bytes.now args.cap
     args.levels.now (sym dilation_refusal.ensures ∙ c.if-refusal-ne0.false) in
-    let j = judged args.width args.height args.sheet.now args.side args.bytes.now t.0 in
+    let j = judged args.input.width args.input.height args.sheet.now args.input.side args.bytes.now t.0 in
     (j.element.side_is, j.element.size)
 
 pub fill_levels-requires : goal.fill_levels-requires
 fill_levels-requires c =
     let args = c.args in
     let dilation_refusal = c.dilation_refusal-refusal in
-    let t = dilation_taken args.width args.height args.sheet.now args.side args.bytes.now args.cap
+    let t = dilation_taken args.input.width args.input.height args.sheet.now args.input.side args.bytes.now args.cap
     args.levels.now (sym dilation_refusal.ensures ∙ c.if-refusal-ne0.false) in
-    let j = judged args.width args.height args.sheet.now args.side args.bytes.now t.0 in
+    let j = judged args.input.width args.input.height args.sheet.now args.input.side args.bytes.now t.0 in
     rw c.fresh_record-run.ensures (
       j.element.side_is,
       (
         t.1,
-        (canvas_area args.width args.height args.cap args.side args.levels.now t.2, j.sheet_size_lem),
+        (canvas_area args.input.width args.input.height args.cap args.input.side args.levels.now t.2, j.sheet_size_lem),
       ),
     )
 
