@@ -21,7 +21,8 @@ use Rattle.element.proofs.ElementLaws.{side_bounds}
 use Rattle.sheet.specs.Sheets.{is_side_out}
 use Rattle.sheet.proofs.FrameLaws.{side_in}
 use Rattle.run.specs.declared.Record.{Record}
-use Rattle.run.specs.Kinds.{eroding, dilating, cropping, by_kind, erosion_kind, dilation_kind, background_beyond, foreground_beyond}
+use Rattle.run.specs.declared.kinds.Kind.TheVariants.{Eroding, Dilating, Cropping}
+use Rattle.run.specs.Kinds.{by_kind, erosion_kind, dilation_kind, background_beyond, foreground_beyond}
 use Rattle.run.specs.Records.{margin_of, margin, area_width, area_height, due, outside, any_outside, element_foreign}
 use Rattle.run.specs.Records.{kind_foreign, cap_foreign, foreign, record_bad}
 use Rattle.run.proofs.KindLaws.{of_erosion, of_cropped}
@@ -195,7 +196,7 @@ unfolding kind_foreign
 sound_kind r q = go (eqb r.kind 1) (eqb r.edge 0) refl refl q
   where
     go : (a b : Bool) → eqb r.kind 1 ≡ a → eqb r.edge 0 ≡ b
-        → by_kind (cond a (cond b eroding cropping) dilating) (not (eqb r.cap 0)) (not (eqb r.kind 2) || not (eqb r.edge 0))
+        → by_kind (cond a (cond b Eroding Cropping) Dilating) (not (eqb r.cap 0)) (not (eqb r.kind 2) || not (eqb r.edge 0))
         (not (eqb r.edge 1)) ≡ false → IsOfKind r
     go true true k e f = plain (eqb-true r.kind 1 k) (eqb-true r.edge 0 e) (eqb-true r.cap 0 (not-false _ f))
     go true false k e f = crops (eqb-true r.kind 1 k) (eqb-true r.edge 1 (not-false _ f))
@@ -254,6 +255,12 @@ sound r e =
 pub not_bad : (r : Record) → record_bad r ≡ false → (foreign r ≡ false) × (r.rows ≤ due r)
 unfolding record_bad
 not_bad r e = let f = neither (foreign r) (ltb (due r) r.rows) e in (f.0, ltb-false (due r) r.rows f.1)
+
+pub not_foreign : (r : Record) → record_bad r ≡ false → foreign r ≡ false
+not_foreign r e = (not_bad r e).0
+
+pub rows_within : (r : Record) → record_bad r ≡ false → r.rows ≤ due r
+rows_within r e = (not_bad r e).1
 
 pub area_small : (height width : ℕ) → height ≤ 4096 → width ≤ 4096 → height * width ≤ 4096 * 4096
 area_small height width a b = mul-le-mul a b
