@@ -1,5 +1,5 @@
 -- The laws of putting levels and of lowering them, over a stretch: it grows by one level, two passes that follow one another join,
--- and two over the same stretch make one.
+-- two over the same stretch make one, and one over a part that was lent is one over the whole.
 -- Each is shown level by level.
 use Prim.Native.Nat.{ℕ, ◌+◌, ◌-◌, ◌≤◌, ◌<◌, min}
 use native.Mathlib.Nat.{zero-add}

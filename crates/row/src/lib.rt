@@ -77,6 +77,7 @@ fn by_other_rows(worked: &mut [u16], part: &[u16], area: &Area, row: usize, upwa
 }
 
 // The column worked at turn `t`.
+#[tactic(auto, unfolding(crate::specs::RowRule::place))]
 fn column(upward: bool, width: usize, t: usize) -> usize
     requires { t < width }
     ensures { result ≡ place upward width t }
@@ -85,6 +86,7 @@ fn column(upward: bool, width: usize, t: usize) -> usize
 }
 
 // Whether the cell that leads to the column worked `d` turns ago is set.
+#[tactic(auto, unfolding(crate::specs::RowRule::cell_number, crate::specs::Passes::cell_back, crate::specs::Passes::leads_back))]
 fn leads_back(cells: &[[u8; 7]; 7], upward: bool, d: usize) -> bool
     requires { (1 ≤ d) × (d ≤ 3) }
     ensures { result ≡ leads_back cells.now upward d }
@@ -94,6 +96,7 @@ fn leads_back(cells: &[[u8; 7]; 7], upward: bool, d: usize) -> bool
 }
 
 // What a cell of the own row adds to its partner's level: 1, or, where it is not set, so much that nothing is lowered.
+#[tactic(auto, unfolding(crate::specs::Passes::step))]
 fn step_of(set: bool) -> u32
     ensures { (result ≡ step set) × (result ≤ none) }
 {
