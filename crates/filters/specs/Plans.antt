@@ -10,7 +10,7 @@ use Rattle.run.specs.declared.Record.{Record}
 use Rattle.run.specs.declared.kinds.Kind.TheVariants.{Eroding, Dilating}
 use Rattle.run.specs.Starting.{start_record, start_levels, canvas_refusals}
 use Rattle.run.specs.Demand2.{finished}
-use Rattle.filters.specs.declared.Input.{Input}
+use Rattle.run.specs.declared.Input.{Input}
 use Rattle.filters.specs.declared.judging.Plan.{Plan}
 use Rattle.filters.specs.declared.judging.Lengths.{Lengths}
 use Rattle.filters.specs.Filters.{Buffers, Cleared, IsSheet, AreLevels, foreground_of, element_of, input_refusals}

@@ -13,17 +13,11 @@ fn start_run(input: Input, sheet: &[u8], bytes: &[u8], plan: Plan, levels: &mut 
     ensures { (result ≡ first_record input bytes.now plan) ×
         (levels.new ≡ first_start input sheet.now bytes.now plan) }
 {
-    let width = input.width;
-    let height = input.height;
     if plan.closing {
-        let cap = judging::cap_of(plan);
-        let dilation = run::starting::start_dilation(
-            width, height, sheet, input.side, bytes, cap, levels,
-        );
-        return dilation.run;
+        run::starting::start_dilation(input, sheet, bytes, judging::cap_of(plan), levels).run
+    } else {
+        run::starting::start_erosion(input, sheet, bytes, levels).run
     }
-    let erosion = run::starting::start_erosion(width, height, sheet, input.side, bytes, levels);
-    erosion.run
 }
 
 // The first run, all its rows worked.

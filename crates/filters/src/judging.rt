@@ -28,19 +28,17 @@ fn limit_of(plan: Plan) -> usize
     ensures { result ≡ limit_of plan }
 {
     if plan.closing {
-        return basics::HIGHEST_CAP;
+        basics::HIGHEST_CAP
+    } else {
+        basics::LARGEST_SIZE
     }
-    basics::LARGEST_SIZE
 }
 
 // The cap of the first run, whose canvas holds all that a closing dilates to; an opening stays in the frame.
 pub fn cap_of(plan: Plan) -> usize
     ensures { result ≡ cap_of plan }
 {
-    if plan.closing {
-        return plan.size;
-    }
-    0
+    if plan.closing { plan.size } else { 0 }
 }
 
 // The entries of a row of the output: bytes of a packed sheet, or levels.
@@ -49,23 +47,24 @@ fn row_entries(packed: bool, width: usize) -> usize
     ensures { (result ≡ entries_of packed width) × (result ≤ longest_side) }
 {
     if packed {
-        return sheet::row_bytes(width);
+        sheet::row_bytes(width)
+    } else {
+        width
     }
-    width
 }
 
 // Refusals 2 to 10 of the first run, with so many levels, or 0.
 fn first_refusal(input: Input, sheet: &[u8], bytes: &[u8], plan: Plan, count: usize) -> u32
     ensures { result ≡ first (start_refusals input sheet.now bytes.now plan count) }
 {
-    let refusal = run::starting::start_refusal(input.width, input.height, sheet, input.side, bytes);
+    let refusal = run::starting::start_refusal(input, sheet, bytes);
     if refusal != 0 {
         return refusal;
     }
     if limit_of(plan) < plan.size {
         return 8;
     }
-    run::starting::canvas_refusal(input.width, input.height, cap_of(plan), input.side, count)
+    run::starting::canvas_refusal(input, cap_of(plan), count)
 }
 
 // The same with the second work buffer, or 0.

@@ -8,7 +8,7 @@ use Rattle.run.specs.declared.kinds.Kind.TheVariants.{Dilating}
 use Rattle.run.specs.Kinds.{size_limit}
 use Rattle.run.specs.Records.{canvas_side, margin, area_width, area_height, foreign}
 use Rattle.run.specs.Starting.{framed, start_record, start_levels}
-use Rattle.filters.specs.declared.Input.{Input}
+use Rattle.run.specs.declared.Input.{Input}
 use Rattle.filters.specs.Filters.{frame_size, sheet_size}
 use Rattle.maps.specs.Maps.{size_in}
 
