@@ -6,13 +6,21 @@ ghost use Rattle.filters.specs.Plans.{limit_of, cap_of, entries_of, start_refusa
 
 use super::Input;
 
-// An opening or a closing, by a size or up to a cap, into a packed sheet or into levels. Opening levels have no size to ask for:
-// theirs is 0.
+// An opening or a closing, by a size or up to a cap, into a packed sheet or into levels.
 #[derive(Clone, Copy)]
 pub struct Plan {
     pub closing: bool,
     pub size: usize,
     pub packed: bool,
+}
+
+impl Plan {
+    // Opening levels, which have no size to ask for.
+    pub const OPENING_LEVELS: Plan = Plan {
+        closing: false,
+        size: 0,
+        packed: false,
+    };
 }
 
 // The lengths of the two work buffers and of the output.

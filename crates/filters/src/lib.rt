@@ -67,11 +67,7 @@ pub fn opening_levels(
         (record { first = first.entry.now; second = second.old; out = out.old }) result
         (record { first = first.exit.now; second = second.new; out = out.new }) }
 {
-    let plan = judging::Plan {
-        closing: false,
-        size: 0,
-        packed: false,
-    };
+    let plan = judging::Plan::OPENING_LEVELS;
     answering::answer_levels(input, sheet, bytes, plan, first, second, out)
 }
 

@@ -5,10 +5,9 @@ mod blank;
 mod counting;
 mod fractions;
 
-ghost use Rattle.std.specs.Prelude.{◌≡◌, max};
+ghost use Rattle.std.specs.Prelude.{◌≡◌};
 ghost use Rattle.basics.specs.Refusals.{first};
 ghost use Rattle.spectrum.specs.Spectrum.{refusals_by, no_summary, GivesSpectrum};
-ghost use Rattle.spectrum.specs.Counting.{opening};
 
 use filters::Input;
 use filters::judging::Plan;
@@ -27,23 +26,6 @@ pub struct Answer {
     pub summary: Summary,
 }
 
-fn larger(a: usize, b: usize) -> usize
-    ensures { result ≡ max a b }
-{
-    if a < b { b } else { a }
-}
-
-// Opening levels are asked for.
-fn opening_plan() -> Plan
-    ensures { result ≡ opening }
-{
-    Plan {
-        closing: false,
-        size: 0,
-        packed: false,
-    }
-}
-
 // Refusals 2 to 7, 10, 11 and 14 with buffers of these lengths, or 0.
 pub fn spectrum_refusal(
     input: Input,
@@ -55,12 +37,18 @@ pub fn spectrum_refusal(
 ) -> u32
     ensures { result ≡ first (refusals_by input sheet.now bytes.now one two entries) }
 {
-    let plan = opening_plan();
-    let refusal = filters::judging::work_refusal(input, sheet, bytes, plan, one, two);
+    let refusal = filters::judging::work_refusal(
+        input,
+        sheet,
+        bytes,
+        Plan::OPENING_LEVELS,
+        one,
+        two,
+    );
     if refusal != 0 {
         return refusal;
     }
-    if entries != larger(input.width, input.height) + 1 {
+    if entries != input.width.max(input.height) + 1 {
         return 11;
     }
     if blank::is_blank(input.width, input.height, sheet) {
@@ -98,9 +86,10 @@ pub fn spectrum(
     if refusal != 0 {
         return refused(refusal);
     }
-    let run = filters::answering::first_run(input, sheet, bytes, opening_plan(), first);
+    let run = filters::answering::first_run(input, sheet, bytes, Plan::OPENING_LEVELS, first);
     counting::fill_table(run, first, second, table);
-    filters::back::clear_both(first, second);
+    first.fill(0);
+    second.fill(0);
     Answer {
         refusal: 0,
         summary: fractions::summary_of(table),
