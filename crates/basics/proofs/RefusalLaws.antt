@@ -8,7 +8,12 @@ use mathlib.Core.Logic.{◌≢◌}
 use lib.Dec.{T, eqb}
 use borrow.Author.Tests.{eqb-false}
 use native.Mathlib.Decide.{ℕ_discrete}
-use Rattle.basics.specs.Refusals.{Refusal, first, Answers}
+use native.Mathlib.Omega.{arith}
+use Rattle.basics.specs.declared.refusal.Refusal as declared
+use Rattle.basics.specs.declared.refusal.Refusal.TheVariants.{Record, FrameSide, SheetLength, ElementSide, ElementByte, CentreUnset, CentreAlone}
+use Rattle.basics.specs.declared.refusal.Refusal.TheVariants.{Size, CanvasSide, LevelsLength, OutputLength, Allowance, RowsDue, BlankSheet}
+use Rattle.basics.specs.declared.refusal.Refusal.TheVariants.{NoPbm, Header, ShortRaster, LongRaster}
+use Rattle.basics.specs.Refusals.{Refusal, first, Answers, number_of}
 
 -- no number is 0, the sign of acceptance; of a list with its numbers written out this computes
 abbrev pub numbered : List Refusal → Bool
@@ -61,10 +66,35 @@ pub passed : (n : ℕ) (b : Bool) (rest : List Refusal) → n ≢ 0 → first ((
 passed n true rest z e = absurd (z e)
 passed n false rest z e = (refl, e)
 
+-- no refusal has the number of acceptance
+pub number_positive : (refusal : declared.Refusal) → number_of refusal ≢ 0
+number_positive Record e = absurd (omega arith)
+number_positive FrameSide e = absurd (omega arith)
+number_positive SheetLength e = absurd (omega arith)
+number_positive ElementSide e = absurd (omega arith)
+number_positive ElementByte e = absurd (omega arith)
+number_positive CentreUnset e = absurd (omega arith)
+number_positive CentreAlone e = absurd (omega arith)
+number_positive Size e = absurd (omega arith)
+number_positive CanvasSide e = absurd (omega arith)
+number_positive LevelsLength e = absurd (omega arith)
+number_positive OutputLength e = absurd (omega arith)
+number_positive Allowance e = absurd (omega arith)
+number_positive RowsDue e = absurd (omega arith)
+number_positive BlankSheet e = absurd (omega arith)
+number_positive NoPbm e = absurd (omega arith)
+number_positive Header e = absurd (omega arith)
+number_positive ShortRaster e = absurd (omega arith)
+number_positive LongRaster e = absurd (omega arith)
+
 module _ {A : Type 0} {refusals : List Refusal} {kept : A} {Right : A → Type 0} where
   -- the answers of a call that refuses, and of one that accepts
   pub refuses : (number : ℕ) → number ≢ 0 → number ≡ first refusals → Answers refusals kept Right number kept
   refuses number n e = record { refusal = e; accepted = λ z. absurd (n z); refused = λ _. refl }
+
+  pub refuses_with : (refusal : declared.Refusal) → number_of refusal ≡ first refusals
+      → Answers refusals kept Right (number_of refusal) kept
+  refuses_with refusal = refuses (number_of refusal) (number_positive refusal)
 
   pub accepts : (after : A) → first refusals ≡ 0 → Right after → Answers refusals kept Right 0 after
   accepts after e h = record { refusal = sym e; accepted = λ _. h; refused = λ n. absurd (n refl) }

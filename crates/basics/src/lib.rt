@@ -1,5 +1,10 @@
-// What every layer shares: the order of refusals, tables, limits, and laws about them. Its only code are the limits.
+// What every layer shares: why a call is refused, how it answers, tables, limits, and laws about them. Its only code are the limits
+// and the refusals.
 #![tactic(auto)]
+
+mod refusal;
+
+pub use refusal::Refusal;
 
 // A side of a frame or of a canvas.
 pub const LONGEST_SIDE: usize = 4096;

@@ -1,39 +1,60 @@
--- What the loops keep, each with its start, its turn and its end: counting and writing go from the last digit to the first,
--- reading from the first on.
-use Prim.Native.Nat.{ℕ, suc, ◌+◌, ◌-◌, ◌*◌, ◌/◌, ◌%◌, ◌≤◌, ◌<◌, min}
-use native.Mathlib.Numerals.{add-one}
+-- What counting, writing and reading rest on: the digits of n are as many as the power of ten below it says; written from the last
+-- on, those of what is left stand before those written; and what was read is the value of the run so far, or the limit.
+use Prim.Native.Nat.{ℕ, zero, suc, ◌+◌, ◌-◌, ◌*◌, ◌/◌, ◌%◌, ◌^◌, ◌≤◌, ◌<◌, min}
+use native.Mathlib.Nat.{pow-succ', one-le-pow}
 use native.Mathlib.Omega.{arith}
 use mathlib.Core.Path.{◌≡◌, refl, sym, ap, ◌∙◌}
-use mathlib.Core.Bool.{true, false}
+use mathlib.Core.Bool.{cond}
 use mathlib.Core.List.{List, [], ◌∷◌, ◌++◌, append_assoc}
-use lib.ListN.{length, get_or, take, drop, set, length-set, drop_of_length-le}
-use lib.Seq.{drop-cons, set_split, take-set-le, drop-set-lt, get_or-set_same, take-take}
+use lib.ListN.{length, get_or, take, drop, set, length-set, take-append-drop}
+use lib.Seq.{drop-cons, take-set-le, drop-set-lt, get_or-set_same, take-take}
+use Rattle.std.proofs.lemmas.List.{take_more}
+use Rattle.std.proofs.lemmas.List.Folds.{length-prefix_len}
+use Rattle.std.proofs.lemmas.List.Sums.{take_while-cons}
+use Rattle.std.specs.Char.{is_ascii_digit}
+use Rattle.std.specs.List.{prefix_len}
+use Rattle.std.proofs.Common.{Option, None, Some, IfNone, IfSome, unwrap_or}
 use Rattle.decimal.specs.Numbers.{is_digit, value_from, value, digits, digit_run, written}
-use Rattle.decimal.proofs.NumberLaws.{digits_one, digits_more, length_one, length_more, digits_some, run_end, run_stops}
-use Rattle.decimal.proofs.NumberLaws.{run_more}
+use Rattle.decimal.proofs.NumberLaws.{by_tens, digits_one, digits_more, length_one, length_more, value_append}
 
--- counting: the digits counted, but for the first of those left, and those left are all
-pub record Counting (n count left : ℕ) : Type 0 where
-  pub bounded : count + left ≤ n + 1
-  pub whole : count + length (digits left) ≡ length (digits n) + 1
+-- counting
+length_between : (k n : ℕ) → 10 ^ k ≤ n → n < 10 * 10 ^ k → length (digits n) ≡ k + 1
+length_between zero n low high = length_one n (omega arith)
+length_between (suc k) n low high =
+    let e : 10 ^ suc k ≡ 10 * 10 ^ k = pow-succ' 10 k in
+    let p : 1 ≤ 10 ^ k = one-le-pow k 10 (omega arith) in
+    let m = length_more n (omega arith) in
+    let ih = length_between k (n / 10) (omega arith) (omega arith) in
+    omega arith
 
-pub counting_start : (n : ℕ) → Counting n 1 n
-counting_start n = record { bounded = omega arith; whole = omega arith }
+pub count_is : (n : ℕ) (power : Option ℕ) → IfNone power (n ≡ 0) → IfSome power (λ k. 10 ^ k ≤ n)
+    → IfSome power (λ k. n < 10 * 10 ^ k) → unwrap_or power 0 + 1 ≡ length (digits n)
+count_is n None none low high = let m = length_one n (omega arith) in omega arith
+count_is n (Some k) none low high = let m = length_between k n low high in omega arith
 
-module _ {n count left : ℕ} (h : Counting n count left) where
-  pub counting_turn : 10 ≤ left → Counting n (count + 1) (left / 10)
-  counting_turn l = let m = length_more left l in record { bounded = omega arith; whole = omega arith }
+-- writing: the last k digits of a number
+unfoldable pub last_digits : ℕ → ℕ → List ℕ
+last_digits zero n = []
+last_digits (suc k) n = last_digits k (n / 10) ++ ((48 + n % 10) ∷ [])
 
-  pub counting_end : left < 10 → count ≡ length (digits n)
-  counting_end l = let m = length_one left l in omega arith
+last_all : (n : ℕ) → last_digits (length (digits n)) n ≡ digits n
+unfolding last_digits
+last_all = by_tens (λ n. last_digits (length (digits n)) n ≡ digits n) one more
+  where
+    one : (n : ℕ) → n < 10 → last_digits (length (digits n)) n ≡ digits n
+    one n l = let e : n % 10 ≡ n = omega arith in rw (length_one n l, digits_one n l, e)
 
--- writing: what is written stands from i on, and with the digits of what is left before it makes the whole
+    more : (n : ℕ) → 10 ≤ n → last_digits (length (digits (n / 10))) (n / 10) ≡ digits (n / 10)
+        → last_digits (length (digits n)) n ≡ digits n
+    more n l ih =
+        let e : length (digits n) ≡ suc (length (digits (n / 10))) = let m = length_more n l in omega arith in
+        rw e (ap (λ row. row ++ ((48 + n % 10) ∷ [])) ih ∙ sym (digits_more n l))
+
+-- what is written stands from i on, and with the digits before it of what is left it makes the whole
 pub record Writing (n at : ℕ) (buffer : List ℕ) (left i : ℕ) (out : List ℕ) : Type 0 where
-  pub size : length out ≡ length buffer
-  pub place : i ≡ at + length (digits left)
-  pub within : i ≤ length buffer
+  pub within : at ≤ i
   pub front : take i out ≡ take i buffer
-  pub whole : digits left ++ drop i out ≡ digits n ++ drop (at + length (digits n)) buffer
+  pub whole : last_digits (i - at) left ++ drop i out ≡ digits n ++ drop (at + length (digits n)) buffer
 
 drop-set : (out : List ℕ) (j v : ℕ) → j < length out → drop j (set out j v) ≡ v ∷ drop (suc j) out
 drop-set out j v l =
@@ -43,96 +64,54 @@ drop-set out j v l =
 take_less : (xs ys : List ℕ) (i j : ℕ) → j ≤ i → take i xs ≡ take i ys → take j xs ≡ take j ys
 take_less xs ys i j l e = sym (take-take j i xs l) ∙ ap (take j) e ∙ take-take j i ys l
 
-pub writing_start : (n at : ℕ) (buffer : List ℕ) (i : ℕ) → i ≡ at + length (digits n) → i ≤ length buffer
-    → Writing n at buffer n i buffer
-writing_start n at buffer i e l =
-    record { size = refl; place = e; within = l; front = refl; whole = ap (λ k. digits n ++ drop k buffer) e }
+pub writing_start : (n at : ℕ) (buffer : List ℕ) (i : ℕ) → i ≡ at + length (digits n) → Writing n at buffer n i buffer
+writing_start n at buffer i e =
+    let k : i - at ≡ length (digits n) = omega arith in
+    record { within = omega arith; front = refl; whole = rw (k, last_all n, e) }
 
 module _ {n at : ℕ} {buffer : List ℕ} {left i : ℕ} {out : List ℕ} (h : Writing n at buffer left i out) where
-  -- the stores are inside the buffer
-  pub writing_room : 10 ≤ left → (1 ≤ i) × (i - 1 < length out)
-  writing_room l = let m = length_more left l in (omega arith, omega arith)
-
-  pub writing_first : at < length out
-  writing_first = let d = digits_some left in omega arith
-
-  pub writing_turn : 10 ≤ left → (byte : ℕ) → byte ≡ 48 + left % 10
+  pub writing_turn : at < i → i ≤ length out → (byte : ℕ) → byte ≡ 48 + left % 10
       → Writing n at buffer (left / 10) (i - 1) (set out (i - 1) byte)
-  writing_turn l byte e =
-      let r = writing_room l in
-      let m = length_more left l in
+  unfolding last_digits
+  writing_turn l m byte e =
       let j = i - 1 in
       let q : suc j ≡ i = omega arith in
-      let d : drop j (set out j byte) ≡ byte ∷ drop i out = drop-set out j byte (omega arith) ∙ ap (λ k. byte ∷ drop k out) q in
-      let w : digits (left / 10) ++ (byte ∷ []) ≡ digits left = ap (λ b. digits (left / 10) ++ (b ∷ [])) e
-      ∙ sym (digits_more left l) in
+      let k : i - at ≡ suc (j - at) = omega arith in
+      let d : drop j (set out j byte) ≡ (48 + left % 10) ∷ drop i out =
+      drop-set out j byte (omega arith) ∙ rw (q, e) in
+      let w = rw k at h.whole in
       record {
-        size = length-set out j byte ∙ h.size;
-        place = omega arith;
         within = omega arith;
         front = take-set-le j out j byte (omega arith) ∙ take_less out buffer i j (omega arith) h.front;
-        whole = ap (λ tail. digits (left / 10) ++ tail) d ∙ sym (append_assoc (digits (left / 10)) (byte ∷ []) (drop i out))
-            ∙ ap (λ row. row ++ drop i out) w ∙ h.whole;
+        whole = ap (λ tail. last_digits (j - at) (left / 10) ++ tail) d
+            ∙ sym (append_assoc (last_digits (j - at) (left / 10)) ((48 + left % 10) ∷ []) (drop i out)) ∙ w;
       }
 
-  pub writing_end : left < 10 → (byte : ℕ) → byte ≡ 48 + left → set out at byte ≡ written n at buffer
-  writing_end l byte e =
-      let m = length_one left l in
-      let q : suc at ≡ i = omega arith in
-      let w : byte ∷ [] ≡ digits left = ap (λ b. b ∷ []) e ∙ sym (digits_one left l) in
-      set_split out at byte (omega arith) ∙ ap (λ k. take at out ++ (byte ∷ drop k out)) q ∙
-      ap (λ xs. xs ++ (byte ∷ drop i out)) (take_less out buffer i at (omega arith) h.front) ∙
-      ap (λ row. take at buffer ++ (row ++ drop i out)) w ∙ ap (λ xs. take at buffer ++ xs) h.whole
+  pub writing_end : i ≤ at → out ≡ written n at buffer
+  unfolding last_digits
+  writing_end l =
+      let w = h.within in
+      let e : i ≡ at = omega arith in
+      let z : at - at ≡ 0 = omega arith in
+      let front = rw e at h.front in
+      let rest = rw (e, z) at h.whole in
+      sym (take-append-drop at out) ∙ rw (front, rest)
 
--- reading: from i on the run ends where it ended, and what it means together with what was read is the same up to the limit
-pub record Reading (file : List ℕ) (at limit sum i : ℕ) : Type 0 where
-  pub within : i ≤ length file
-  pub small : sum ≤ limit
-  pub place : i + length (digit_run (drop i file)) ≡ at + length (digit_run (drop at file))
-  pub worth : min (value_from sum (digit_run (drop i file))) limit ≡ min (value (digit_run (drop at file))) limit
+-- reading: the bytes up to the first that is no digit are the run
+taken_is : (row : List ℕ) → take (prefix_len is_ascii_digit row) row ≡ digit_run row
+unfolding digit_run is_digit
+taken_is [] = refl
+taken_is (byte ∷ row) = take_while-cons is_ascii_digit byte row ∙ ap (λ r. cond (is_digit byte) (byte ∷ r) []) (taken_is row)
 
--- a number above the limit stays above it, whatever digits follow
-saturates : (limit sum : ℕ) (row : List ℕ) → min (value_from (min sum limit) row) limit ≡ min (value_from sum row) limit
+pub run_counted : (row : List ℕ) (count : ℕ) → count ≡ length (take (prefix_len is_ascii_digit row) row)
+    → (count ≡ length (digit_run row)) × (take count row ≡ digit_run row)
+run_counted row count e = (
+  e ∙ ap length (taken_is row),
+  ap (λ n. take n row) (e ∙ length-prefix_len is_ascii_digit row) ∙ taken_is row,
+)
+
+-- a number above the limit stays above it
+pub value_turn : (row : List ℕ) (i limit sum : ℕ) → i < length row → sum ≡ min (value (take i row)) limit
+    → min (sum * 10 + (get_or row i 0 - 48)) limit ≡ min (value (take (i + 1) row)) limit
 unfolding value_from
-saturates limit sum [] = omega arith
-saturates limit sum (byte ∷ row) =
-    let e : min (min sum limit * 10 + (byte - 48)) limit ≡ min (sum * 10 + (byte - 48)) limit = omega arith in
-    sym (saturates limit (min sum limit * 10 + (byte - 48)) row) ∙ ap (λ s. min (value_from s row) limit) e
-    ∙ saturates limit (sum * 10 + (byte - 48)) row
-
-pub reading_start : (file : List ℕ) (at limit : ℕ) → at ≤ length file → Reading file at limit 0 at
-reading_start file at limit l = record { within = l; small = omega arith; place = refl; worth = refl }
-
-module _ {file : List ℕ} {at limit sum i : ℕ} (h : Reading file at limit sum i) where
-  pub reading_turn : i < length file → is_digit (get_or file i 0) ≡ true → (new : ℕ)
-      → new ≡ min (sum * 10 + (get_or file i 0 - 48)) limit → Reading file at limit new (i + 1)
-  unfolding value_from
-  reading_turn l e new q =
-      let r : digit_run (drop i file) ≡ get_or file i 0 ∷ digit_run (drop (i + 1) file) = ap digit_run (drop-cons file i 0 l)
-      ∙ run_more (get_or file i 0) (drop (suc i) file) e ∙ ap (λ k. get_or file i 0 ∷ digit_run (drop k file)) (sym (add-one i)) in
-      let s = ap length r in
-      record {
-        within = omega arith;
-        small = omega arith;
-        place = omega arith;
-        worth = ap (λ v. min (value_from v (digit_run (drop (i + 1) file))) limit) q
-            ∙ saturates limit (sum * 10 + (get_or file i 0 - 48)) (digit_run (drop (i + 1) file))
-            ∙ ap (λ row. min (value_from sum row) limit) (sym r) ∙ h.worth;
-      }
-
-  -- where the run is over, what was read is the answer
-  over : digit_run (drop i file) ≡ []
-      → (i ≡ at + length (digit_run (drop at file))) × (sum ≡ min (value (digit_run (drop at file))) limit)
-  unfolding value_from
-  over e =
-      let z = ap length e in
-      let w = sym (ap (λ row. min (value_from sum row) limit) e) ∙ h.worth in
-      (omega arith, omega arith)
-
-  pub reading_stop : i < length file → is_digit (get_or file i 0) ≡ false
-      → (i ≡ at + length (digit_run (drop at file))) × (sum ≡ min (value (digit_run (drop at file))) limit)
-  reading_stop l e = over (ap digit_run (drop-cons file i 0 l) ∙ run_stops (get_or file i 0) (drop (suc i) file) e)
-
-  pub reading_end : length file ≤ i
-      → (i ≡ at + length (digit_run (drop at file))) × (sum ≡ min (value (digit_run (drop at file))) limit)
-  reading_end l = over (ap digit_run (drop_of_length-le file l) ∙ run_end)
+value_turn row i limit sum l e = rw (take_more row i 0 l, value_append 0 (take i row) (get_or row i 0 ∷ [])) (omega arith)

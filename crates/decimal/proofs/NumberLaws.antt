@@ -51,11 +51,11 @@ by_tens P one more n = go n n (omega arith)
 
 -- what a digit is
 module _ (byte : ℕ) where
-  pub digit_low : byte < 48 → false ≡ is_digit byte
+  digit_low : byte < 48 → false ≡ is_digit byte
   unfolding is_digit
   digit_low l = rw (lt-leb 48 byte l)
 
-  pub digit_high : 48 ≤ byte → leb byte 57 ≡ is_digit byte
+  digit_high : 48 ≤ byte → leb byte 57 ≡ is_digit byte
   unfolding is_digit
   digit_high l = rw (le-leb 48 byte l)
 
@@ -85,7 +85,7 @@ all_at [] i e l = absurd (omega arith)
 all_at (byte ∷ row) zero e l = (both (is_digit byte) (digits_only row) e).0
 all_at (byte ∷ row) (suc i) e l = all_at row i (both (is_digit byte) (digits_only row) e).1 (omega arith)
 
-value_append : (before : ℕ) (xs ys : List ℕ) → value_from before (xs ++ ys) ≡ value_from (value_from before xs) ys
+pub value_append : (before : ℕ) (xs ys : List ℕ) → value_from before (xs ++ ys) ≡ value_from (value_from before xs) ys
 unfolding value_from
 value_append before [] ys = refl
 value_append before (byte ∷ xs) ys = value_append (before * 10 + (byte - 48)) xs ys

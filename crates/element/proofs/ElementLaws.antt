@@ -1,53 +1,32 @@
--- What the loops over an element's bytes need: a definition over the bytes that are left, one byte at a time.
+-- What an element's sides, bytes and cells are, and where they lie.
 use Prim.Native.Nat.{ℕ, suc, ◌+◌, ◌-◌, ◌*◌, ◌/◌, ◌%◌, ◌≤◌, ◌<◌}
 use native.Mathlib.Nat.{mul-le-mul, add-mul, suc-mul}
-use native.Mathlib.Numerals.{add-one}
 use native.Mathlib.Omega.{arith}
 use mathlib.Core.Path.{◌≡◌, refl, sym, ap, ◌∙◌}
-use mathlib.Core.Bool.{Bool, true, false, cond, ◌&&◌, ◌||◌, false≢true}
-use mathlib.Core.Logic.{◌≢◌, ◌⊎◌, inl, inr}
-use mathlib.Core.List.{List, ◌∷◌}
-use lib.Dec.{eqb}
-use lib.ListN.{length, get_or, drop, drop_of_length-le}
-use lib.Seq.{drop-cons}
-use borrow.Author.Tests.{lt-ltb, le-ltb, le-leb, lt-leb, eq-eqb, ne_eqb, eqb-true}
-use Rattle.basics.specs.Bounds.{any_above}
-use Rattle.basics.specs.Refusals.{first}
+use mathlib.Core.Bool.{Bool, true, false, not, cond, ◌&&◌, ◌||◌, false≢true}
+use mathlib.Core.Logic.{◌⊎◌, inl, inr}
+use mathlib.Core.List.{List, [], ◌∷◌}
+use Rattle.std.specs.Prelude.{count_by}
+use Rattle.std.proofs.lemmas.List.Sums.{sum_by-cons}
+use lib.Dec.{eqb, leb, ltb}
+use lib.ListN.{get_or}
+use borrow.Author.Tests.{lt-ltb, le-ltb, le-leb, lt-leb, leb-true, ltb-true, eqb-true}
+use Rattle.basics.proofs.BoundLaws.{both}
 use Rattle.basics.proofs.Arithmetic.{entry_below, entry_of, row_below, column_below}
 use Rattle.grid.specs.Figures.{reach}
-use Rattle.element.specs.Elements.{byte_at, is_side, count_set, element_refusals}
+use Rattle.element.specs.Elements.{byte_at, is_side, count_set}
 use Rattle.element.specs.Cells.{is_held, centred_cell}
 
--- the bytes from i on
-next : (bytes : List ℕ) (i : ℕ) → i < length bytes → drop i bytes ≡ get_or bytes i 0 ∷ drop (i + 1) bytes
-next bytes i l = rw (add-one, drop-cons bytes i 0)
-
-module _ (bytes : List ℕ) (i : ℕ) where
-  pub count_next : i < length bytes → count_set (drop i bytes) ≡ cond (eqb (get_or bytes i 0) 0) 0 1 + count_set (drop (i + 1) bytes)
-  unfolding count_set
-  count_next l = rw (next bytes i l)
-
-  pub count_end : length bytes ≤ i → count_set (drop i bytes) ≡ 0
-  unfolding count_set
-  count_end l = rw (drop_of_length-le bytes l)
-
--- the answers of is_side
-module _ (side : ℕ) where
-  pub side_one : side ≡ 1 → true ≡ is_side side
-  unfolding is_side
-  side_one e = rw (eq-eqb side 1 e)
-
-  pub side_three : side ≢ 1 → side ≡ 3 → true ≡ is_side side
-  unfolding is_side
-  side_three a e = rw (ne_eqb side 1 a, eq-eqb side 3 e)
-
-  pub side_five : side ≢ 1 → side ≢ 3 → side ≡ 5 → true ≡ is_side side
-  unfolding is_side
-  side_five a b e = rw (ne_eqb side 1 a, ne_eqb side 3 b, eq-eqb side 5 e)
-
-  pub side_seven : side ≢ 1 → side ≢ 3 → side ≢ 5 → eqb side 7 ≡ is_side side
-  unfolding is_side
-  side_seven a b c = rw (ne_eqb side 1 a, ne_eqb side 3 b, ne_eqb side 5 c)
+-- the bytes that are not 0
+pub set_counted : (bytes : List ℕ) → count_by (λ byte. not (eqb byte 0)) bytes ≡ count_set bytes
+unfolding count_set
+set_counted [] = refl
+set_counted (byte ∷ rest) = sum_by-cons _ byte rest ∙ go (eqb byte 0) (set_counted rest)
+  where
+    go : (zero : Bool) → count_by (λ byte. not (eqb byte 0)) rest ≡ count_set rest
+        → cond (not zero) 1 0 + count_by (λ byte. not (eqb byte 0)) rest ≡ cond zero 0 1 + count_set rest
+    go true e = omega (arith, e)
+    go false e = omega (arith, e)
 
 -- a side is one of four, so what is linear at each of them is omega's
 pub sides : (side : ℕ) → is_side side ≡ true → (side ≡ 1) ⊎ ((side ≡ 3) ⊎ ((side ≡ 5) ⊎ (side ≡ 7)))
@@ -117,40 +96,21 @@ module _ (side : ℕ) (bytes : List ℕ) (row col : ℕ) where
   unfolding centred_cell
   cell_in e f = rw (e, f)
 
--- the answers of element_refusal, each from the tests that led to it
-module _ (side : ℕ) (bytes : List ℕ) where
-  pub refuse_side : is_side side ≡ false → 4 ≡ first (element_refusals side bytes)
-  refuse_side e = rw e
+-- a place of the square
+pub held_place : (side p : ℕ) → is_held side p ≡ true → (3 - reach side ≤ p) × (p < 3 - reach side + side)
+unfolding is_held
+held_place side p e =
+    let h = both (leb (3 - reach side) p) (ltb p (3 - reach side + side)) e in
+    (leb-true (3 - reach side) p h.0, ltb-true p (3 - reach side + side) h.1)
 
-  pub refuse_length : is_side side ≡ true → length bytes ≢ side * side → 4 ≡ first (element_refusals side bytes)
-  refuse_length e n = rw (e, ne_eqb (length bytes) (side * side) n)
-
-  module _ (e : is_side side ≡ true) (l : length bytes ≡ side * side) where
-    pub refuse_byte : any_above 1 bytes ≡ true → 5 ≡ first (element_refusals side bytes)
-    refuse_byte a = rw (e, eq-eqb (length bytes) (side * side) l, a)
-
-    module _ (a : any_above 1 bytes ≡ false) where
-      pub refuse_centre : byte_at side bytes (reach side) (reach side) ≡ 0 → 6 ≡ first (element_refusals side bytes)
-      refuse_centre z = rw (e, eq-eqb (length bytes) (side * side) l, a, eq-eqb (byte_at side bytes (reach side) (reach side)) 0 z)
-
-      module _ (z : byte_at side bytes (reach side) (reach side) ≢ 0) where
-        pub refuse_alone : count_set bytes ≡ 1 → 7 ≡ first (element_refusals side bytes)
-        refuse_alone o = rw (
-          e,
-          eq-eqb (length bytes) (side * side) l,
-          a,
-          ne_eqb (byte_at side bytes (reach side) (reach side)) 0 z,
-          eq-eqb (count_set bytes) 1 o,
-        )
-
-        pub accept_element : count_set bytes ≢ 1 → 0 ≡ first (element_refusals side bytes)
-        accept_element o = rw (
-          e,
-          eq-eqb (length bytes) (side * side) l,
-          a,
-          ne_eqb (byte_at side bytes (reach side) (reach side)) 0 z,
-          ne_eqb (count_set bytes) 1 o,
-        )
+-- and the byte that stands there
+pub held_entry : (side row col : ℕ) → is_side side ≡ true → is_held side row ≡ true → is_held side col ≡ true
+    → (3 - reach side ≤ row) × ((3 - reach side ≤ col) × (((row - (3 - reach side)) * side + (col - (3 - reach side)) < side * side) × (side * side ≤ 49)))
+held_entry side row col known r c =
+    let a = held_place side row r in
+    let b = held_place side col c in
+    let bounds = side_bounds side known in
+    (a.0, (b.0, square_entry side (row - (3 - reach side)) (col - (3 - reach side)) known (omega arith) (omega arith)))
 
 -- counted from the last byte, entry k is at the row and the column across the centre
 pub reflected_entry : (side : ℕ) (bytes : List ℕ) (k : ℕ) → k < side * side

@@ -3,82 +3,60 @@
 
 ghost use Rattle.std.specs.Prelude.{◌≡◌, true, cond, eqb, ◌+◌, ◌-◌, ◌*◌, ◌<◌, ◌≤◌, length, get_or};
 ghost use Rattle.basics.specs.Bounds.{any_above};
-ghost use Rattle.basics.specs.Refusals.{first};
+ghost use Rattle.basics.specs.Refusals.{first, number};
 ghost use Rattle.basics.specs.Tables.{table};
 ghost use Rattle.element.specs.Elements.{is_side, count_set, element_refusals};
-ghost use Rattle.element.specs.Cells.{centred, centred_cell, turned, flat, unflat};
+ghost use Rattle.element.specs.Cells.{is_held, centred, centred_cell, turned, flat, unflat};
 ghost use Rattle.element.specs.Reflect.{reflected_bytes, Reflects};
 
+use basics::Refusal;
+
+#[tactic(auto, unfolding(crate::specs::Elements::is_side))]
 pub fn is_side(side: usize) -> bool
     ensures { result ≡ is_side side }
 {
-    if side == 1 {
-        return true;
-    }
-    if side == 3 {
-        return true;
-    }
-    if side == 5 {
-        return true;
-    }
-    side == 7
+    matches!(side, 1 | 3 | 5 | 7)
 }
 
 pub fn any_above_one(bytes: &[u8]) -> bool
     ensures { result ≡ any_above 1 bytes.now }
 {
-    let mut i = 0;
-    while i < bytes.len() {
-        if bytes[i] > 1 {
-            return true;
-        }
-        i += 1;
-    }
-    false
-}
-
-// 1 where the byte is set.
-fn one_if_set(byte: u8) -> usize
-    ensures { (result ≡ cond (eqb byte 0) 0 1) × (result ≤ 1) }
-{
-    if byte == 0 {
-        return 0;
-    }
-    1
+    bytes.iter().any(|&byte| byte > 1)
 }
 
 pub fn count_set(bytes: &[u8]) -> usize
     ensures { result ≡ count_set bytes.now }
 {
-    let mut count = 0;
-    let mut i = 0;
-    while i < bytes.len() {
-        count += one_if_set(bytes[i]);
-        i += 1;
-    }
-    count
+    bytes.iter().filter(|&&byte| byte != 0).count()
 }
 
-// Refusals 4 to 7 of an element, or 0.
-pub fn element_refusal(side: usize, bytes: &[u8]) -> u32
-    ensures { result ≡ first (element_refusals side bytes.now) }
+// Refusals 4 to 7 of an element.
+pub fn check_element(side: usize, bytes: &[u8]) -> Result<(), Refusal>
+    ensures { number result ≡ first (element_refusals side bytes.now) }
 {
-    if !is_side(side) {
-        return 4;
-    }
-    if bytes.len() != side * side {
-        return 4;
+    if !is_side(side) || bytes.len() != side * side {
+        return Err(Refusal::ElementSide);
     }
     if any_above_one(bytes) {
-        return 5;
+        return Err(Refusal::ElementByte);
     }
     if bytes[(side - 1) / 2 * side + (side - 1) / 2] == 0 {
-        return 6;
+        return Err(Refusal::CentreUnset);
     }
     if count_set(bytes) == 1 {
-        return 7;
+        return Err(Refusal::CentreAlone);
     }
-    0
+    Ok(())
+}
+
+// Whether place `p` of seven is one of the side's, centred among the seven.
+#[tactic(auto, using(crate::proofs::ElementLaws::side_bounds), unfolding(crate::specs::Cells::is_held))]
+pub fn is_held(side: usize, p: usize) -> bool
+    requires { is_side side ≡ true }
+    ensures { result ≡ is_held side p }
+{
+    let before = 3 - (side - 1) / 2;
+    before <= p && p < before + side
 }
 
 // The cell at a row and a column of the seven by seven.
@@ -86,35 +64,12 @@ fn centred_cell(side: usize, bytes: &[u8], row: usize, col: usize) -> u8
     requires { (is_side side ≡ true) × (length bytes.now ≡ side * side) }
     ensures { result ≡ centred_cell side bytes.now row col }
 {
-    let margin = 3 - (side - 1) / 2;
-    if row < margin {
-        return 0;
+    if is_held(side, row) && is_held(side, col) {
+        let before = 3 - (side - 1) / 2;
+        bytes[(row - before) * side + (col - before)]
+    } else {
+        0
     }
-    if margin + side <= row {
-        return 0;
-    }
-    if col < margin {
-        return 0;
-    }
-    if margin + side <= col {
-        return 0;
-    }
-    bytes[(row - margin) * side + (col - margin)]
-}
-
-// One row of the seven by seven.
-fn centred_row(side: usize, bytes: &[u8], row: usize) -> [u8; 7]
-    requires { (is_side side ≡ true) × (length bytes.now ≡ side * side) }
-    ensures { result ≡ table 7 (centred_cell side bytes.now row) }
-{
-    let mut out = [0u8; 7];
-    let mut col = 0;
-    while col < 7 {
-        let cell = centred_cell(side, bytes, row, col);
-        out[col] = cell;
-        col += 1;
-    }
-    out
 }
 
 // An accepted element as seven rows of seven cells.
@@ -123,24 +78,10 @@ pub fn cells_of(side: usize, bytes: &[u8]) -> [[u8; 7]; 7]
     ensures { result ≡ centred side bytes.now }
 {
     let mut out = [[0u8; 7]; 7];
-    let mut row = 0;
-    while row < 7 {
-        let cells = centred_row(side, bytes, row);
-        out[row] = cells;
-        row += 1;
-    }
-    out
-}
-
-// A row from right to left.
-fn turned_row(row: [u8; 7]) -> [u8; 7]
-    ensures { result ≡ table 7 (λ col. get_or row (6 - col) 0) }
-{
-    let mut out = [0u8; 7];
-    let mut col = 0;
-    while col < 7 {
-        out[col] = row[6 - col];
-        col += 1;
+    for row in 0..7 {
+        for col in 0..7 {
+            out[row][col] = centred_cell(side, bytes, row, col);
+        }
     }
     out
 }
@@ -150,12 +91,10 @@ pub fn turned_cells(cells: [[u8; 7]; 7]) -> [[u8; 7]; 7]
     ensures { result ≡ turned cells }
 {
     let mut out = [[0u8; 7]; 7];
-    let mut row = 0;
-    while row < 7 {
-        let other = cells[6 - row];
-        let back = turned_row(other);
-        out[row] = back;
-        row += 1;
+    for row in 0..7 {
+        for col in 0..7 {
+            out[row][col] = cells[6 - row][6 - col];
+        }
     }
     out
 }
@@ -165,24 +104,8 @@ pub fn flat_cells(cells: [[u8; 7]; 7]) -> [u8; 49]
     ensures { result ≡ flat cells }
 {
     let mut out = [0u8; 49];
-    let mut k = 0;
-    while k < 49 {
+    for k in 0..49 {
         out[k] = cells[k / 7][k % 7];
-        k += 1;
-    }
-    out
-}
-
-// One row of the seven, out of the flat row.
-fn flat_row(cells: [u8; 49], row: usize) -> [u8; 7]
-    requires { row < 7 }
-    ensures { result ≡ table 7 (λ col. get_or cells (row * 7 + col) 0) }
-{
-    let mut out = [0u8; 7];
-    let mut col = 0;
-    while col < 7 {
-        out[col] = cells[row * 7 + col];
-        col += 1;
     }
     out
 }
@@ -192,11 +115,10 @@ pub fn rows_of(cells: [u8; 49]) -> [[u8; 7]; 7]
     ensures { result ≡ unflat cells }
 {
     let mut out = [[0u8; 7]; 7];
-    let mut row = 0;
-    while row < 7 {
-        let some = flat_row(cells, row);
-        out[row] = some;
-        row += 1;
+    for row in 0..7 {
+        for col in 0..7 {
+            out[row][col] = cells[row * 7 + col];
+        }
     }
     out
 }
@@ -207,24 +129,19 @@ fn fill_reflected(side: usize, bytes: &[u8], out: &mut [u8])
     ensures { out.new ≡ reflected_bytes side bytes.now }
 {
     let count = bytes.len();
-    let mut k = 0;
-    while k < count {
+    for k in 0..count {
         out[k] = bytes[count - 1 - k];
-        k += 1;
     }
 }
 
 // Public: fills `out` with the element reflected, the cell at each b taking the byte at -b. Refusals 4, 5, 6, 7, 11.
-pub fn reflect(side: usize, bytes: &[u8], out: &mut [u8]) -> u32
-    ensures { Reflects side bytes.now out.old result out.new }
+pub fn reflect(side: usize, bytes: &[u8], out: &mut [u8]) -> Result<(), Refusal>
+    ensures { Reflects side bytes.now out.old (number result) out.new }
 {
-    let refusal = element_refusal(side, bytes);
-    if refusal != 0 {
-        return refusal;
-    }
+    check_element(side, bytes)?;
     if out.len() != bytes.len() {
-        return 11;
+        return Err(Refusal::OutputLength);
     }
     fill_reflected(side, bytes, out);
-    0
+    Ok(())
 }

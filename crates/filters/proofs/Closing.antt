@@ -9,7 +9,7 @@ use Rattle.grid.specs.Points.{Point, ◌⊕◌, neg}
 use Rattle.grid.specs.Sets.{PointSet, eroded, dilated, closed}
 use Rattle.grid.proofs.PointLaws.{⊕-swap, ⊕-cancel}
 use Rattle.grid.proofs.LevelLaws.{erosion_iff}
-use Rattle.row.specs.RowRule.{Area}
+use Rattle.row.specs.declared.Area.{Area}
 use Rattle.scan.specs.Look.{full_scan}
 use Rattle.scan.specs.Starts.{ErosionStart}
 use Rattle.scan.proofs.LookLaws.{spot}

@@ -17,7 +17,8 @@ use Rattle.grid.specs.Figures.{frame}
 use Rattle.grid.proofs.PointLaws.{⊕-origin, ⊕-move}
 use Rattle.grid.proofs.SetLaws.{fold_origin, fold_grows, fold_reflect}
 use Rattle.grid.proofs.LevelLaws.{dilation_iff}
-use Rattle.row.specs.RowRule.{Area, none}
+use Rattle.row.specs.declared.Area.{Area}
+use Rattle.row.specs.RowRule.{none}
 use Rattle.scan.specs.Look.{look, full_scan, cap, partners}
 use Rattle.scan.proofs.Walks.{Walk}
 use Rattle.scan.proofs.GridScans.{GridScan, Step, walk→fold, same_partners}

@@ -57,21 +57,19 @@ pub record RestWriting (rest : List ℕ) (start at : ℕ) (buffer : List ℕ) (e
   pub text : List ℕ
   pub wrote : Wrote text at buffer out end
   pub whole : text ++ level_row column (drop i rest) ≡ level_row start rest
-  pub room : at + length (level_row start rest) ≤ length buffer
   pub bounded : column ≤ end
 
-pub rest_start : (rest : List ℕ) (start at : ℕ) (buffer : List ℕ) → start ≤ at → at + length (level_row start rest) ≤ length buffer
+pub rest_start : (rest : List ℕ) (start at : ℕ) (buffer : List ℕ) → start ≤ at
     → RestWriting rest start at buffer at start 0 buffer
-rest_start rest start at buffer b l = record { text = []; wrote = wrote_none at buffer; whole = refl; room = l; bounded = b }
+rest_start rest start at buffer b = record { text = []; wrote = wrote_none at buffer; whole = refl; bounded = b }
 
 module _ {rest : List ℕ} {start at : ℕ} {buffer : List ℕ} {end column i : ℕ} {out : List ℕ}
-    (h : RestWriting rest start at buffer end column i out) where
+    (h : RestWriting rest start at buffer end column i out) (fits : at + length (level_row start rest) ≤ length buffer) where
   text_fits : at + length h.text ≤ length buffer
-  text_fits = let a = length-append h.text (level_row column (drop i rest)) in let w = ap length h.whole in
-      let r = h.room in omega arith
+  text_fits = let a = length-append h.text (level_row column (drop i rest)) in let w = ap length h.whole in omega arith
 
-  pub rest_same : length out ≡ length buffer
-  rest_same = wrote_length h.text at buffer out end text_fits h.wrote
+  same : length out ≡ length buffer
+  same = wrote_length h.text at buffer out end text_fits h.wrote
 
   abbrev here : ℕ
   here = get_or rest i 0
@@ -91,12 +89,11 @@ module _ {rest : List ℕ} {start at : ℕ} {buffer : List ℕ} {end column i : 
   pub rest_room : (level : ℕ) → level ≡ get_or rest i 0 → i < length rest → end + 1 + length (digits level) ≤ length out
   rest_room level q l =
       let n = ap (λ k. length (digits k)) q in
-      let s = rest_same in
+      let s = same in
       let w = ap length (split l) in
       let a = length-append (h.text ++ step) (level_row (column_after column (length (digits here))) (drop (i + 1) rest)) in
       let b = length-append h.text step in
       let e = h.wrote.place in
-      let r = h.room in
       omega arith
 
   pub rest_turn : (level : ℕ) (later : List ℕ) (next after : ℕ) → level ≡ get_or rest i 0 → i < length rest
@@ -114,7 +111,6 @@ module _ {rest : List ℕ} {start at : ℕ} {buffer : List ℕ} {end column i : 
         text = h.text ++ step;
         wrote = wrote_more h.text step at buffer out later end next text_fits h.wrote p;
         whole = ap (λ k. (h.text ++ step) ++ level_row k (drop (i + 1) rest)) f ∙ split l;
-        room = h.room;
         bounded = omega arith;
       }
 
@@ -124,11 +120,10 @@ module _ {rest : List ℕ} {start at : ℕ} {buffer : List ℕ} {end column i : 
 
   pub rest_last : length rest ≤ i → end < length out
   rest_last l =
-      let s = rest_same in
+      let s = same in
       let w = ap length (last_split l) in
       let a = length-append h.text (10 ∷ []) in
       let e = h.wrote.place in
-      let r = h.room in
       omega arith
 
   pub rest_end : length rest ≤ i → Wrote (level_row start rest) at buffer (set out end 10) (end + 1)

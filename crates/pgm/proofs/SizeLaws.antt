@@ -2,14 +2,13 @@
 -- the lines end.
 use Prim.Native.Nat.{ℕ, zero, suc, ◌+◌, ◌*◌, ◌≤◌, ◌<◌}
 use native.Mathlib.Nat.{suc-mul, mul-le-mul}
-use native.Mathlib.Numerals.{add-one}
 use native.Mathlib.Omega.{arith}
 use mathlib.Core.Path.{◌≡◌, refl, sym, ap, ◌∙◌}
 use mathlib.Core.Bool.{false}
 use mathlib.Core.List.{List, [], ◌∷◌, ◌++◌}
 use lib.Dec.{ltb}
 use lib.ListN.{length, get_or, take, drop, length-append, length-drop, take-append-drop, drop_of_length-le}
-use lib.Seq.{drop-cons}
+use Rattle.std.proofs.lemmas.List.{at_drop_more, at_drop_all}
 use borrow.Author.Tests.{ltb-false}
 use Rattle.basics.specs.Bounds.{any_above}
 use Rattle.basics.specs.Limits.{longest_side}
@@ -148,24 +147,21 @@ module _ (width height maximum done due : ℕ) (levels : List ℕ) (h : Picture 
 
 -- summing up the levels' text
 pub record Summing (levels : List ℕ) (sum i : ℕ) : Type 0 where
-  pub within : i ≤ length levels
   pub whole : sum + levels_size (drop i levels) ≡ levels_size levels
   pub bounded : sum ≤ 6 * i
 
 module _ {levels : List ℕ} {sum i : ℕ} (h : Summing levels sum i) where
-  pub summing_turn : (level count : ℕ) → i < length levels → (level ≡ get_or levels i 0) × (level < level_end)
+  pub summing_turn : (level count : ℕ) → i < length levels → level ≡ get_or levels i 0 → level < level_end
       → count ≡ length (digits level) → (count ≤ 5) × Summing levels (sum + (count + 1)) (i + 1)
   unfolding levels_size
-  summing_turn level count l e n =
-      let f = five level e.1 in
+  summing_turn level count l e small n =
+      let f = five level small in
       let b = h.bounded in
       let w = h.whole in
-      let q : level ≡ get_or levels i 0 = e.0 in
-      let d : drop i levels ≡ level ∷ drop (i + 1) levels = drop-cons levels i 0 l ∙ sym (ap (λ x. x ∷ drop (suc i) levels) q)
-      ∙ ap (λ k. level ∷ drop k levels) (sym (add-one i)) in
-      let s = ap levels_size d in
-      (omega arith, record { within = omega arith; whole = omega arith; bounded = omega arith })
+      let s = at_drop_more levels_size levels i 0 l in
+      let d = ap (λ x. length (digits x)) e in
+      (omega arith, record { whole = omega arith; bounded = omega arith })
 
   pub summing_end : length levels ≤ i → sum ≡ levels_size levels
   unfolding levels_size
-  summing_end l = let s = ap levels_size (drop_of_length-le levels l) in let w = h.whole in omega arith
+  summing_end l = let s = at_drop_all levels_size levels i l in let w = h.whole in omega arith

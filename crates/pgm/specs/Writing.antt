@@ -2,7 +2,9 @@
 use Rattle.std.specs.Prelude.{ℕ, ◌+◌, ◌*◌, ◌<◌, ◌≤◌, ◌≡◌, List, [], ◌∷◌, length}
 use Rattle.basics.specs.Limits.{longest_side}
 use Rattle.decimal.specs.Numbers.{digits}
+use Rattle.pgm.specs.declared.Header.{Header}
 use Rattle.pgm.specs.Lines.{Every}
+use Rattle.pgm.specs.PgmText.{pgm_header, pgm_text}
 
 -- as many bytes as the digits of the levels, and one more for each
 unfoldable pub levels_size : List ℕ → ℕ
@@ -34,3 +36,16 @@ pub record Picture (width height maximum done due : ℕ) (levels : List ℕ) : T
   pub small_maximum : maximum < level_end
   pub small_done : done < level_end
   pub small_due : due < level_end
+
+-- the same of a header and its levels, and their text
+abbrev pub header_text : List ℕ → Header → List ℕ
+header_text magic header = pgm_header magic header.done header.due header.width header.height header.maximum
+
+abbrev pub picture_text : Header → List ℕ → List ℕ
+picture_text header levels = pgm_text header.width header.height header.maximum header.done header.due levels
+
+abbrev pub SmallHeader : Header → Type 0
+SmallHeader header = SmallNumbers header.done header.due header.width header.height header.maximum
+
+abbrev pub IsPicture : Header → List ℕ → Type 0
+IsPicture header levels = Picture header.width header.height header.maximum header.done header.due levels

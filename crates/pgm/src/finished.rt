@@ -5,6 +5,7 @@ ghost use Rattle.basics.specs.Refusals.{first};
 ghost use Rattle.run.specs.Records.{foreign};
 ghost use Rattle.pgm.specs.WritePgm.{maximum, pgm_refusals, WritesPgm};
 
+use super::Header;
 use run::Record;
 
 // What writing answers: the refusal number, 0 where it is accepted, and the text's length, 0 beside a refusal.
@@ -58,7 +59,14 @@ pub fn pgm_refusal(run: Record, levels: &[u16], out: &[u8]) -> u32
         return 10;
     }
     let due = run::records::rows_due(run);
-    if out.len() < super::pgm_length(run.width, run.height, maximum, run.rows, due, levels) {
+    let header = Header {
+        done: run.rows,
+        due,
+        width: run.width,
+        height: run.height,
+        maximum,
+    };
+    if out.len() < super::pgm_length(header, levels) {
         return 11;
     }
     if run.rows != due {
@@ -86,6 +94,13 @@ pub fn write_pgm(run: Record, levels: &[u16], out: &mut [u8]) -> WritePgm
     }
     let maximum = maximum_of(run);
     let due = run::records::rows_due(run);
-    let length = super::write_pgm_text(run.width, run.height, maximum, run.rows, due, levels, out);
+    let header = Header {
+        done: run.rows,
+        due,
+        width: run.width,
+        height: run.height,
+        maximum,
+    };
+    let length = super::write_pgm_text(header, levels, out);
     WritePgm { refusal: 0, length }
 }

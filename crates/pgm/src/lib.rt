@@ -5,14 +5,23 @@ pub mod finished;
 
 ghost use Rattle.std.specs.Prelude.{◌≡◌, ◌∷◌, [], ◌++◌, ◌+◌, ◌-◌, ◌*◌, ◌<◌, ◌≤◌, length};
 ghost use Rattle.decimal.specs.Numbers.{digits};
-ghost use Rattle.pgm.specs.PgmText.{line, rows_remark, pgm_header, stays, parting, column_after, level_row, frame_row};
-ghost use Rattle.pgm.specs.PgmText.{levels_text, pgm_text};
+ghost use Rattle.pgm.specs.PgmText.{stays, parting, column_after, level_row, frame_row, levels_text};
 ghost use Rattle.text.specs.Writing.{begun, Wrote};
 ghost use Rattle.basics.specs.Limits.{longest_side};
-ghost use Rattle.pgm.specs.Writing.{levels_size, level_end, SmallNumbers, Picture};
+ghost use Rattle.pgm.specs.Writing.{levels_size, level_end, header_text, picture_text, SmallHeader, IsPicture};
 
 // The characters of a line, its end not counted.
 const LINE_WIDTH: usize = 70;
+
+// What the lines before the levels state: the rows done and due, the sides, and the maximum.
+#[derive(Clone, Copy)]
+pub struct Header {
+    pub done: usize,
+    pub due: usize,
+    pub width: usize,
+    pub height: usize,
+    pub maximum: usize,
+}
 
 // A level has 16 bits.
 fn wide(level: u16) -> usize
@@ -22,6 +31,7 @@ fn wide(level: u16) -> usize
 }
 
 // Whether a number of `size` digits stays on a line of `column` characters, as long as the sum fits.
+#[tactic(auto, unfolding(crate::specs::PgmText::stays))]
 fn stays_on(column: usize, size: usize) -> bool
     requires { column + 1 + size < 18446744073709551616 }
     ensures { result ≡ stays column size }
@@ -30,25 +40,25 @@ fn stays_on(column: usize, size: usize) -> bool
 }
 
 // The byte before that number: a blank, or the end of the line before.
+#[tactic(auto, unfolding(crate::specs::PgmText::parting))]
 fn parting_byte(column: usize, size: usize) -> u8
     requires { column + 1 + size < 18446744073709551616 }
     ensures { result ≡ parting column size }
 {
-    if stays_on(column, size) {
-        return 32;
-    }
-    10
+    if stays_on(column, size) { b' ' } else { b'\n' }
 }
 
 // The characters of its line up to its end.
+#[tactic(auto, unfolding(crate::specs::PgmText::column_after))]
 fn column_after(column: usize, size: usize) -> usize
     requires { column + 1 + size < 18446744073709551616 }
     ensures { result ≡ column_after column size }
 {
     if stays_on(column, size) {
-        return column + 1 + size;
+        column + 1 + size
+    } else {
+        size
     }
-    size
 }
 
 // Writes a level that follows `column` characters of a line: its digits, and before them what parts it from the number before.
@@ -58,8 +68,7 @@ fn write_parted(level: usize, column: usize, out: &mut [u8], at: usize) -> usize
     ensures { Wrote (parting column (length (digits level)) ∷ digits level) at out.old out.new result }
 {
     let next = decimal::write_number(level, out, at + 1);
-    let byte = parting_byte(column, next - at - 1);
-    out[at] = byte;
+    out[at] = parting_byte(column, next - at - 1);
     next
 }
 
@@ -70,14 +79,12 @@ fn write_rest(rest: &[u16], start: usize, out: &mut [u8], at: usize) -> usize
 {
     let mut column = start;
     let mut end = at;
-    let mut i = 0;
-    while i < rest.len() {
-        let next = write_parted(wide(rest[i]), column, out, end);
+    for &level in rest {
+        let next = write_parted(usize::from(level), column, out, end);
         column = column_after(column, next - end - 1);
         end = next;
-        i += 1;
     }
-    out[end] = 10;
+    out[end] = b'\n';
     end + 1
 }
 
@@ -86,7 +93,7 @@ fn write_row(row: &[u16], out: &mut [u8], at: usize) -> usize
     requires { (0 < length row.now) × (at + length (frame_row row.now) ≤ length out.old) }
     ensures { Wrote (frame_row row.now) at out.old out.new result }
 {
-    let next = decimal::write_number(wide(row[0]), out, at);
+    let next = decimal::write_number(usize::from(row[0]), out, at);
     write_rest(&row[1..], next - at, out, next)
 }
 
@@ -97,82 +104,35 @@ fn write_levels(width: usize, height: usize, levels: &[u16], out: &mut [u8], at:
     ensures { Wrote (levels_text width height levels.now) at out.old out.new result }
 {
     let mut end = at;
-    let mut from = 0;
-    let mut i = 0;
-    while i < height {
-        let stop = from + width;
-        end = write_row(&levels[from..stop], out, end);
-        from = stop;
-        i += 1;
+    for row in levels.chunks_exact(width) {
+        end = write_row(row, out, end);
     }
     end
 }
 
-// Writes the magic number and the remark, whose line does not end yet.
-fn write_remark(magic: &[u8], done: usize, due: usize, out: &mut [u8], at: usize) -> usize
-    requires { at + length (line magic.now ++ rows_remark done due) ≤ length out.old }
-    ensures { Wrote (line magic.now ++ rows_remark done due) at out.old out.new result }
+// Writes the header, which begins with the magic number of its format.
+#[tactic(auto, unfolding(crate::specs::PgmText::pgm_header))]
+pub fn write_header(magic: &[u8], header: Header, out: &mut [u8], at: usize) -> usize
+    requires { at + length (header_text magic.now header) ≤ length out.old }
+    ensures { Wrote (header_text magic.now header) at out.old out.new result }
 {
     let next = text::write_bytes(magic, out, at);
-    text::write_pair(b"\n# rows ", done, b" of ", due, out, next)
-}
-
-// Ends a line, and writes the maximum in the next.
-fn write_maximum(maximum: usize, out: &mut [u8], at: usize) -> usize
-    requires { at + length ((10 ∷ digits maximum) ++ (10 ∷ [])) ≤ length out.old }
-    ensures { Wrote ((10 ∷ digits maximum) ++ (10 ∷ [])) at out.old out.new result }
-{
-    let next = text::write_labelled(b"\n", maximum, out, at);
+    let next = text::write_pair(b"\n# rows ", header.done, b" of ", header.due, out, next);
+    let next = text::write_pair(b"\n", header.width, b" ", header.height, out, next);
+    let next = text::write_labelled(b"\n", header.maximum, out, next);
     text::write_bytes(b"\n", out, next)
 }
 
-// Ends the remark's line, and writes the lines of the sides and the maximum.
-fn write_sizes(width: usize, height: usize, maximum: usize, out: &mut [u8], at: usize) -> usize
-    requires { at + length (((10 ∷ digits width) ++ (32 ∷ digits height)) ++ ((10 ∷ digits maximum) ++ (10 ∷ []))) ≤ length
-        out.old }
-    ensures { Wrote (((10 ∷ digits width) ++ (32 ∷ digits height)) ++ ((10 ∷ digits maximum) ++ (10 ∷ []))) at
-        out.old out.new result }
-{
-    let next = text::write_pair(b"\n", width, b" ", height, out, at);
-    write_maximum(maximum, out, next)
-}
-
-// Writes the header.
-pub fn write_header(
-    magic: &[u8],
-    done: usize,
-    due: usize,
-    width: usize,
-    height: usize,
-    maximum: usize,
-    out: &mut [u8],
-    at: usize,
-) -> usize
-    requires { at + length (pgm_header magic.now done due width height maximum) ≤ length out.old }
-    ensures { Wrote (pgm_header magic.now done due width height maximum) at out.old
-        out.new result }
-{
-    let next = write_remark(magic, done, due, out, at);
-    write_sizes(width, height, maximum, out, next)
-}
-
 // The length of a header whose magic number has two bytes.
-pub fn header_length(
-    magic: &[u8],
-    done: usize,
-    due: usize,
-    width: usize,
-    height: usize,
-    maximum: usize,
-) -> usize
-    requires { (length magic.now ≡ 2) × SmallNumbers done due width height maximum }
-    ensures { result ≡ length (pgm_header magic.now done due width height maximum) }
+pub fn header_length(magic: &[u8], header: Header) -> usize
+    requires { (length magic.now ≡ 2) × SmallHeader header }
+    ensures { result ≡ length (header_text magic.now header) }
 {
-    18 + decimal::digit_count(done)
-        + decimal::digit_count(due)
-        + decimal::digit_count(width)
-        + decimal::digit_count(height)
-        + decimal::digit_count(maximum)
+    18 + decimal::digit_count(header.done)
+        + decimal::digit_count(header.due)
+        + decimal::digit_count(header.width)
+        + decimal::digit_count(header.height)
+        + decimal::digit_count(header.maximum)
 }
 
 // The length of the levels' text: a byte parts each number from the next, wherever the lines end.
@@ -181,44 +141,26 @@ fn levels_length(levels: &[u16]) -> usize
     ensures { (result ≡ levels_size levels.now) × (result ≤ 6 * (longest_side * longest_side)) }
 {
     let mut sum = 0;
-    let mut i = 0;
-    while i < levels.len() {
-        sum += decimal::digit_count(wide(levels[i])) + 1;
-        i += 1;
+    for &level in levels {
+        sum += decimal::digit_count(usize::from(level)) + 1;
     }
     sum
 }
 
 // The length of the text.
-pub fn pgm_length(
-    width: usize,
-    height: usize,
-    maximum: usize,
-    done: usize,
-    due: usize,
-    levels: &[u16],
-) -> usize
-    requires { Picture width height maximum done due levels.now }
-    ensures { result ≡ length (pgm_text width height maximum done due levels.now) }
+pub fn pgm_length(header: Header, levels: &[u16]) -> usize
+    requires { IsPicture header levels.now }
+    ensures { result ≡ length (picture_text header levels.now) }
 {
-    header_length(b"P2", done, due, width, height, maximum) + levels_length(levels)
+    header_length(b"P2", header) + levels_length(levels)
 }
 
 // Writes the text at the front of `out`, which has room for it, and gives its length.
-pub fn write_pgm_text(
-    width: usize,
-    height: usize,
-    maximum: usize,
-    done: usize,
-    due: usize,
-    levels: &[u16],
-    out: &mut [u8],
-) -> usize
-    requires { (Picture width height maximum done due levels.now) ×
-        (length (pgm_text width height maximum done due levels.now) ≤ length out.old) }
-    ensures { (result ≡ length (pgm_text width height maximum done due levels.now)) ×
-        (out.new ≡ begun (pgm_text width height maximum done due levels.now) out.old) }
+pub fn write_pgm_text(header: Header, levels: &[u16], out: &mut [u8]) -> usize
+    requires { IsPicture header levels.now × (length (picture_text header levels.now) ≤ length out.old) }
+    ensures { (result ≡ length (picture_text header levels.now)) ×
+        (out.new ≡ begun (picture_text header levels.now) out.old) }
 {
-    let start = write_header(b"P2", done, due, width, height, maximum, out, 0);
-    write_levels(width, height, levels, out, start)
+    let start = write_header(b"P2", header, out, 0);
+    write_levels(header.width, header.height, levels, out, start)
 }

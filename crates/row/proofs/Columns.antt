@@ -8,11 +8,14 @@ use mathlib.Core.Bool.{true, false}
 use mathlib.Core.Logic.{◌⊎◌, inl, inr}
 use mathlib.Core.List.{List}
 use mathlib.Core.Path.{◌≡◌, sym, ap}
-use lib.ListN.{get_or}
+use lib.ListN.{length, get_or}
+use borrow.Author.Rules.{rules}
 use borrow.Author.Tests.{lt-ltb, le-ltb, le-leb, lt-leb}
+use borrow.Rule.Slice.PartMut.{mid_of, put_mid}
+use Rattle.std.proofs.lemmas.List.{places}
 use Rattle.row.specs.RowRule.{more, within}
 use Rattle.row.specs.Passes.{Pass, column_at}
-use Rattle.row.proofs.Pass.{pass_as, pass_join}
+use Rattle.row.proofs.Pass.{pass_as, pass_join, pass_part}
 
 pub within_in : (n p : ℕ) → 3 ≤ p → p < n + 3 → within n p ≡ true
 unfolding within
@@ -84,3 +87,36 @@ module _ (width from beyond across : ℕ) (levels worked : List ℕ) where
       let all : left + n + right ≡ width = whole width across left right n l r m in
       joined left right n one two three all (over_left width across left right n l r) (between width across left right n l r all)
       (over_right width across left right n l r all) P Q R
+
+-- the same, where each stretch is lent in turn, and the row with the partners beside it
+module _ (worked partners : List ℕ) (across beyond left right : ℕ) (same : length partners ≡ length worked)
+    (l : left ≡ min (3 - across) (length worked)) (r : right ≡ min (across - 3) (length worked)) where
+  -- the columns whose partner is in the row
+  abbrev n : ℕ
+  n = length worked - right - left
+
+  partner_in : (j : ℕ) → j < n → get_or (mid_of right (length worked - left - right) partners) j 0 ≡ get_or partners (0 + right + j) 0
+  partner_in j h = search (rules, places)
+
+  pub by_slices : (one two three : List ℕ) → Pass 0 (length (mid_of 0 left worked)) (λ j. more beyond) (mid_of 0 left worked) one →
+      (first : List ℕ) → first ≡ put_mid 0 left worked one →
+      Pass 0 (length (mid_of left n first)) (λ j. more (get_or (mid_of right (length worked - left - right) partners) j 0))
+      (mid_of left n first) two →
+      (second : List ℕ) → second ≡ put_mid left n first two →
+      (k : ℕ) → k ≡ length second - (length worked - right) →
+      Pass 0 (length (mid_of (length worked - right) k second)) (λ j. more beyond) (mid_of (length worked - right) k second) three →
+      Pass 0 (length worked) (λ col. more (column_at (length worked) 0 beyond partners (col + across))) worked
+      (put_mid (length worked - right) k second three)
+  by_slices one two three P first f Q second s k e R =
+      let A : Pass 0 left (λ j. more beyond) worked first = rw f (pass_part 0 left _ worked one (omega arith) P) in
+      let B : Pass left n (λ j. more (get_or (mid_of right (length worked - left - right) partners) j 0)) first second =
+      rw s (pass_part left n _ first two (omega (arith, A.size)) Q) in
+      let C : Pass (length worked - right) k (λ j. more beyond) second (put_mid (length worked - right) k second three) =
+      pass_part (length worked - right) k _ second three (omega (arith, A.size, B.size)) R in
+      by_stretches (length worked) 0 beyond across partners worked left right n first second _ l r (omega arith) A
+      (pass_as left n first _ _ second (λ j h. ap more (partner_in j h)) B)
+      (moved (omega arith) (omega (arith, A.size, B.size)) C)
+    where
+      moved : {at at' m m' : ℕ} {levels after : List ℕ} → at ≡ at' → m ≡ m' → Pass at m (λ j. more beyond) levels after
+          → Pass at' m' (λ j. more beyond) levels after
+      moved p q S = rw (← p, ← q) S

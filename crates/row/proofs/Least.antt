@@ -8,12 +8,16 @@ use mathlib.Core.Bool.{Bool, true, false, cond, ◌&&◌}
 use mathlib.Core.Logic.{◌⊎◌, inl, inr, ⊎_elim}
 use mathlib.Core.List.{List}
 use mathlib.Core.Path.{◌≡◌, refl, sym, ap, ap₂, ◌∙◌}
-use lib.ListN.{get_or}
+use lib.ListN.{length, get_or}
 use lib.Dec.{eqb, leb, ltb}
+use borrow.Author.Rules.{rules}
+use borrow.Rule.Slice.PartMut.{mid_of}
 use borrow.Author.Tests.{eq-eqb, ne_eqb, leb-true, ltb-true}
+use Rattle.std.proofs.lemmas.List.{places}
 use Rattle.basics.proofs.BoundLaws.{both}
-use Rattle.row.specs.RowRule.{Area, none, more, cell_number, within, level_at, partner, least}
-use Rattle.row.specs.Passes.{Pass, column_at, first_other}
+use Rattle.row.specs.declared.Area.{Area}
+use Rattle.row.specs.RowRule.{none, more, cell_number, within, level_at, partner, least}
+use Rattle.row.specs.Passes.{Pass, column_at}
 use Rattle.row.proofs.Pass.{more_least, pass_as, pass_and, pass_none}
 
 -- an earlier row ends before a later one begins
@@ -85,6 +89,16 @@ within_true : (n p : ℕ) → within n p ≡ true → (3 ≤ p) × (p < n + 3)
 unfolding within
 within_true n p q = let h = both (leb 3 p) (ltb p (n + 3)) q in (leb-true 3 p h.0, ltb-true p (n + 3) h.1)
 
+-- a row that is lent is read from its first level on
+column_lent : (width from beyond : ℕ) (levels : List ℕ) (x : ℕ) → from + width ≤ length levels
+    → column_at width 0 beyond (mid_of from width levels) x ≡ column_at width from beyond levels x
+unfolding column_at
+column_lent width from beyond levels x room =
+    cond_same (within width x) _ _ beyond (λ q. there (x - 3) (let h = within_true width x q in omega arith))
+  where
+    there : (j : ℕ) → j < width → get_or (mid_of from width levels) (0 + j) 0 ≡ get_or levels (from + j) 0
+    there j h = rw zero-add (search (rules, places))
+
 -- levels that differ in the own row alone give the same partners in other rows
 module _ (area : Area) (row : ℕ) (levels after : List ℕ)
     (earlier : (i : ℕ) → i < row * area.width → get_or after i 0 ≡ get_or levels i 0)
@@ -145,14 +159,13 @@ module _ (area : Area) (row k : ℕ) (levels worked : List ℕ) where
       Pass 0 area.width (λ col. more (least area levels row col k 1)) worked after
   pass_beyond after z out P = pass_as _ _ worked _ _ after (λ col h. cell_beyond area levels row col k z out) P
 
-  pub pass_in : (after : List ℕ) → (cell_number area.cells k ≡ 0 → ⊥) → within area.height (row + k / 7) ≡ true →
+  -- the row of the partners was lent
+  pub pass_in : (from : ℕ) (after : List ℕ) → (cell_number area.cells k ≡ 0 → ⊥) → within area.height (row + k / 7) ≡ true →
+      from ≡ (row + k / 7 - 3) * area.width → from + area.width ≤ length levels →
       Pass 0 area.width
-      (λ col. more (column_at area.width ((row + k / 7 - 3) * area.width) area.beyond levels (col + k % 7))) worked after →
+      (λ col. more (column_at area.width 0 area.beyond (mid_of from area.width levels) (col + k % 7))) worked after →
       Pass 0 area.width (λ col. more (least area levels row col k 1)) worked after
-  pass_in after z in_area_lem P = pass_as _ _ worked _ _ after (λ col h. cell_in area levels row col k z in_area_lem) P
-
--- the 21 cells of other rows are those before cell 21, or those from cell 28 on
-pub other_cells : (upward : Bool) (n : ℕ) → n < 21 → first_other upward + n < 49
-unfolding first_other
-other_cells false n h = omega arith
-other_cells true n h = omega arith
+  pass_in from after z in_area_lem at room P =
+      pass_as _ _ worked _ _ after
+      (λ col h. ap more (column_lent area.width from area.beyond levels (col + k % 7) room)
+      ∙ rw (← at) at (cell_in area levels row col k z in_area_lem)) P

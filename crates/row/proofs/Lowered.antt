@@ -5,9 +5,10 @@ use native.Mathlib.Nat.{zero-add}
 use native.Mathlib.Omega.{arith}
 use mathlib.Core.Bool.{Bool, true, false, cond}
 use mathlib.Core.List.{List, [], ◌∷◌, ◌++◌}
-use mathlib.Core.Path.{◌≡◌, refl}
+use mathlib.Core.Path.{◌≡◌, refl, sym, ap, ◌∙◌}
 use lib.Dec.{ltb}
-use lib.ListN.{length, get_or, set}
+use lib.ListN.{length, get_or, set, take}
+use borrow.Rule.Slice.PartMut.{mid_of, post_of, put_mid, put_same}
 use borrow.Author.Tests.{le-ltb}
 use Rattle.row.specs.RowRule.{points_lowered}
 
@@ -34,6 +35,22 @@ pub lowered_behind : (front before after : List ℕ) → points_lowered (front +
 unfolding points_lowered
 lowered_behind [] before after = refl
 lowered_behind (level ∷ front) before after = rw (not_below level, lowered_behind front before after) (zero-add _)
+
+pub lowered_before : (before after rest : List ℕ) → length before ≡ length after
+    → points_lowered (before ++ rest) (after ++ rest) ≡ points_lowered before after
+unfolding points_lowered
+lowered_before [] [] rest same = lowered_same rest
+lowered_before [] (lower ∷ after) rest same = absurd (omega arith)
+lowered_before (level ∷ before) [] rest same = absurd (omega arith)
+lowered_before (level ∷ before) (lower ∷ after) rest same = rw (lowered_before before after rest (omega arith))
+
+-- where a part was lent, the levels lowered are those of the part
+pub lowered_part : (at n : ℕ) (levels part : List ℕ) → length (mid_of at n levels) ≡ length part
+    → points_lowered levels (put_mid at n levels part) ≡ points_lowered (mid_of at n levels) part
+lowered_part at n levels part long =
+    ap (λ (x : List ℕ). points_lowered x (put_mid at n levels part)) (sym (put_same at n levels))
+    ∙ lowered_behind (take at levels) (mid_of at n levels ++ post_of at n levels) (part ++ post_of at n levels)
+    ∙ lowered_before (mid_of at n levels) part (post_of at n levels) long
 
 -- a level that stood as before is stored anew
 pub lowered_store : (before after : List ℕ) (k level : ℕ) → length after ≡ length before → k < length after

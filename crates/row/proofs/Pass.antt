@@ -2,15 +2,19 @@
 -- and two over the same stretch make one.
 -- Each is shown level by level.
 use Prim.Native.Nat.{ℕ, ◌+◌, ◌-◌, ◌≤◌, ◌<◌, min}
+use native.Mathlib.Nat.{zero-add}
 use native.Mathlib.Omega.{arith}
 use mathlib.Core.Bool.{Bool, true, false}
 use mathlib.Core.Logic.{◌⊎◌, inl, inr, ⊎_elim}
 use mathlib.Core.List.{List}
-use mathlib.Core.Path.{◌≡◌, refl, ap, ◌∙◌}
+use mathlib.Core.Path.{◌≡◌, refl, sym, ap, ◌∙◌}
 use lib.Dec.{ltb}
 use lib.ListN.{length, get_or, set, length-set}
-use lib.Seq.{get_or-set_same, get_or-set_other}
+use lib.Seq.{get_or-set_same, get_or-set_other, ext_get_or}
+use borrow.Author.Rules.{rules}
+use borrow.Rule.Slice.PartMut.{mid_of, put_mid}
 use borrow.Author.Tests.{ltb-true, ltb-false}
+use Rattle.std.proofs.lemmas.List.{places}
 use Rattle.row.specs.RowRule.{none, more}
 use Rattle.row.specs.Passes.{Put, Pass}
 
@@ -59,6 +63,43 @@ module _ (start : ℕ) (f : ℕ → ℕ) (levels : List ℕ) where
   -- and all its turns
   pub put_end : (n i : ℕ) (after : List ℕ) → i ≤ n → n ≤ i → Put start i f levels after → Put start n f levels after
   put_end n i after a b P = let q : n ≡ i = omega arith in rw q P
+
+-- where every level is put, the levels are those
+pub put_all : (levels worked after : List ℕ) (i : ℕ) → length worked ≡ length levels → length levels ≤ i
+    → Put 0 i (λ col. get_or worked col 0) levels after → after ≡ worked
+put_all levels worked after i long all P =
+    ext_get_or 0 after worked (P.size ∙ sym long)
+    (λ k h. rw zero-add at (P.inside k (omega (arith, P.size))))
+
+-- what a part is in the whole, where n levels from `at` on were lent and are now `part`
+module _ (at n : ℕ) (levels part : List ℕ) (room : at + n ≤ length levels) (long : length part ≡ n) where
+  pub put_part : (f : ℕ → ℕ) → ((col : ℕ) → col < n → get_or part col 0 ≡ f col) → Put at n f levels (put_mid at n levels part)
+  put_part f each =
+      record {
+        size = search (rules, places);
+        inside = λ col h. part_in col h ∙ each col h;
+        earlier = λ i h. search (rules, places);
+        later = λ i h. part_after i h;
+      }
+    where
+      part_in : (col : ℕ) → col < n → get_or (put_mid at n levels part) (at + col) 0 ≡ get_or part col 0
+      part_in col h = search (rules, places)
+
+      part_after : (i : ℕ) → at + n ≤ i → get_or (put_mid at n levels part) i 0 ≡ get_or levels i 0
+      part_after i h = search (rules, places)
+
+-- a pass over the part is one over those levels
+pub pass_part : (at n : ℕ) (f : ℕ → ℕ) (levels part : List ℕ) → at + n ≤ length levels
+    → Pass 0 (length (mid_of at n levels)) f (mid_of at n levels) part → Pass at n f levels (put_mid at n levels part)
+pass_part at n f levels part room P =
+    put_part at n levels part room (P.size ∙ long) _
+    (λ col h. rw zero-add at (P.inside col (omega (arith, long))) ∙ ap (λ (x : ℕ). min x (f col)) (mid_in col h))
+  where
+    long : length (mid_of at n levels) ≡ n
+    long = search (rules, places)
+
+    mid_in : (col : ℕ) → col < n → get_or (mid_of at n levels) col 0 ≡ get_or levels (at + col) 0
+    mid_in col h = search (rules, places)
 
 -- a turn that lowers a level: it stood as at entry
 pub pass_turn : (start : ℕ) (f : ℕ → ℕ) (levels : List ℕ) (n : ℕ) (after stored : List ℕ) → start + n < length levels

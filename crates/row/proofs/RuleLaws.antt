@@ -8,7 +8,8 @@ use mathlib.Core.List.{List}
 use mathlib.Core.Path.{◌≡◌, refl, ◌∙◌}
 use lib.ListN.{length, get_or, length-set}
 use lib.Seq.{get_or-set_other}
-use Rattle.row.specs.RowRule.{Area, point_rule, place, columns, row_rule}
+use Rattle.row.specs.declared.Area.{Area}
+use Rattle.row.specs.RowRule.{point_rule, place, columns, row_rule}
 use Rattle.row.proofs.Own.{place_below}
 
 module _ (P : List ℕ → Type 0) (area : Area) (upward : Bool) (row : ℕ)

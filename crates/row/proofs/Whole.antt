@@ -12,7 +12,8 @@ use lib.ListN.{length, get_or, set, length-set}
 use lib.Seq.{get_or-set_same, get_or-set_other, ext_get_or}
 use lib.Dec.{eqb, leb}
 use borrow.Author.Tests.{le-leb, lt-leb}
-use Rattle.row.specs.RowRule.{Area, none, more, cell_number, level_at, partner, least, first_met, lowered, point_rule, place}
+use Rattle.row.specs.declared.Area.{Area}
+use Rattle.row.specs.RowRule.{none, more, cell_number, level_at, partner, least, first_met, lowered, point_rule, place}
 use Rattle.row.specs.RowRule.{columns, row_rule}
 use Rattle.row.specs.Passes.{Put, Pass, column_at, first_other, cell_back, leads_back, level_back, picked, nearest}
 use Rattle.row.specs.Passes.{own_point, own_columns}
@@ -127,13 +128,13 @@ lower_twice level a b = rw (more_least a b) (shift level (more a) (more b))
 
 module _ (area : Area) (upward : Bool) (row : ℕ) (in_area_lem : row < area.height) where
   -- the row, taken and worked by the other rows
-  ahead_start : (levels entry taken worked : List ℕ) → row * area.width + area.width ≤ length levels
-      → area.width ≤ length entry → Put 0 area.width (λ col. get_or levels (row * area.width + col) 0) entry taken →
+  ahead_start : (levels taken worked : List ℕ) → row * area.width + area.width ≤ length levels
+      → area.width ≤ length taken → ((col : ℕ) → col < area.width → get_or taken col 0 ≡ get_or levels (row * area.width + col) 0) →
       Pass 0 area.width (λ col. more (least area levels row col (first_other upward) 21)) taken worked →
       Ahead area upward row 0 levels worked
-  ahead_start levels entry taken worked room wide T P =
+  ahead_start levels taken worked room wide T P =
       record {
-        wide = rw (P.size, T.size) wide;
+        wide = rw P.size wide;
         room = room;
         done = λ s h k. absurd (omega arith);
         left = λ s h k. start (place upward area.width s) (place_below upward area.width s k);
@@ -144,7 +145,7 @@ module _ (area : Area) (upward : Bool) (row : ℕ) (in_area_lem : row < area.hei
           ≡ min (get_or levels (row * area.width + col) 0) (more (least area levels row col (first_other upward) 21))
       start col h =
           let e : ◌≡◌ {A = ℕ} (0 + col) col = zero-add col in
-          rw e at (P.inside col h ∙ ap (λ (x : ℕ). min x (more (least area levels row col (first_other upward) 21))) (T.inside col h))
+          rw e at (P.inside col h) ∙ ap (λ (x : ℕ). min x (more (least area levels row col (first_other upward) 21))) (T col h)
 
   -- both give the column of turn t the same level
   module _ (t : ℕ) (points own : List ℕ) (turn : t < area.width) (A : Ahead area upward row t points own) where
@@ -234,8 +235,9 @@ module _ (area : Area) (upward : Bool) (row : ℕ) (in_area_lem : row < area.hei
     ahead_turn = rw level_same (ahead_same (lowered area upward points row (place upward area.width t)))
 
   -- with every column worked the row is the same; it is stored, and the other rows stay
-  module _ (levels entry taken worked after : List ℕ) (room : row * area.width + area.width ≤ length levels)
-      (wide : area.width ≤ length entry) (T : Put 0 area.width (λ col. get_or levels (row * area.width + col) 0) entry taken)
+  module _ (levels taken worked after : List ℕ) (room : row * area.width + area.width ≤ length levels)
+      (wide : area.width ≤ length taken)
+      (T : (col : ℕ) → col < area.width → get_or taken col 0 ≡ get_or levels (row * area.width + col) 0)
       (P : Pass 0 area.width (λ col. more (least area levels row col (first_other upward) 21)) taken worked) where
     own : ℕ → List ℕ
     own t =
@@ -244,7 +246,7 @@ module _ (area : Area) (upward : Bool) (row : ℕ) (in_area_lem : row < area.hei
 
     ahead : (t : ℕ) → t ≤ area.width → Ahead area upward row t (columns area upward row t levels) (own t)
     unfolding own columns own_columns
-    ahead zero h = ahead_start levels entry taken worked room wide T P
+    ahead zero h = ahead_start levels taken worked room wide T P
     ahead (suc t) h = ahead_turn t _ _ (omega arith) (ahead t (omega arith))
 
     same_row : (col : ℕ) → col < area.width

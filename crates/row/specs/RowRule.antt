@@ -1,6 +1,7 @@
 -- How a row is worked: docs/RULES.md, "Runs", for any levels.
 -- Levels stand row by row in one list. Cells of the element are numbered 0 to 48 in reading order; cell 24 is its centre.
 use Rattle.std.specs.Prelude.{ℕ, zero, suc, ◌+◌, ◌-◌, ◌*◌, ◌/◌, ◌%◌, min, Bool, true, false, cond, ◌&&◌, List, [], ◌∷◌, eqb, leb, ltb, get_or, set}
+use Rattle.row.specs.declared.Area.{Area}
 
 -- 65,535 means "nothing found yet"; adding one to it gives it again
 abbrev pub none : ℕ
@@ -8,14 +9,6 @@ none = 65535
 
 abbrev pub more : ℕ → ℕ
 more level = min (level + 1) none
-
--- The area worked on: its sides, what a partner beyond it reads, and the seven rows of seven cells whose set cells lead from a
--- point to its partners
-pub record Area : Type 0 where
-  pub width : ℕ
-  pub height : ℕ
-  pub beyond : ℕ
-  pub cells : List (List ℕ)
 
 unfoldable pub cell_number : List (List ℕ) → ℕ → ℕ
 cell_number cells k = get_or (get_or cells (k / 7) []) (k % 7) 0

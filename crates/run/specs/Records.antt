@@ -6,7 +6,7 @@ use Rattle.grid.specs.Figures.{reach}
 use Rattle.element.specs.Elements.{is_side, count_set}
 use Rattle.element.specs.Cells.{is_held}
 use Rattle.sheet.specs.Sheets.{is_side_out}
-use Rattle.row.specs.RowRule.{Area}
+use Rattle.row.specs.declared.Area.{Area}
 use Rattle.scan.specs.Scan.{area}
 use Rattle.run.specs.declared.Record.{Record}
 use Rattle.run.specs.declared.records.Frame.{Frame}

@@ -1,7 +1,7 @@
 // Pictures of a finished run: its levels collected, and the sheet that it holds at a size; and how both, and a look, are judged and packed.
 ghost use Rattle.std.specs.Prelude.{◌≡◌, false, ◌+◌, ◌*◌, ◌/◌, ◌≤◌, length, get_or};
 ghost use Rattle.basics.specs.Limits.{longest_side};
-ghost use Rattle.basics.specs.Refusals.{first};
+ghost use Rattle.basics.specs.Refusals.{first, number};
 ghost use Rattle.basics.specs.Tables.{table, raster};
 ghost use Rattle.sheet.specs.Sheets.{row_bytes, byte_packed, packed};
 ghost use Rattle.run.specs.Records.{record_bad};
@@ -12,6 +12,7 @@ ghost use Rattle.run.specs.Provisional.{view_refusals, provisional_refusals};
 use super::kinds::{Bounds, Reading};
 use super::records::Frame;
 use super::{Record, kinds, records};
+use basics::Refusal;
 
 // The levels of a row, each as it is read.
 fn copy_row(levels: &[u16], reading: Reading, out: &mut [u16])
@@ -39,39 +40,43 @@ fn copy_frame(levels: &[u16], frame: Frame, reading: Reading, out: &mut [u16])
     }
 }
 
-// Refusals 8, 10 and 11 of a sound record's levels read at a size, with `room` entries lent of `wanted`, or 0.
-fn view_refusal(run: Record, levels: &[u16], size: usize, room: usize, wanted: usize) -> u32
+// Refusals 8, 10 and 11 of a sound record's levels read at a size, with `room` entries lent of `wanted`.
+#[tactic(auto, using(crate::proofs::RecordLaws::not_foreign))]
+fn check_view(
+    run: Record,
+    levels: &[u16],
+    size: usize,
+    room: usize,
+    wanted: usize,
+) -> Result<(), Refusal>
     requires { record_bad run ≡ false }
-    ensures { result ≡ first (view_refusals run levels.now size room wanted) }
+    ensures { number result ≡ first (view_refusals run levels.now size room wanted) }
 {
     if kinds::size_limit(run) < size {
-        return 8;
+        return Err(Refusal::Size);
     }
     if records::levels_wrong(run, levels) {
-        return 10;
+        return Err(Refusal::LevelsLength);
     }
     if room != wanted {
-        return 11;
+        return Err(Refusal::OutputLength);
     }
-    0
+    Ok(())
 }
 
 // Public: fills `out` with the frame's levels of a finished run. Refusals 1, 10, 11, 13.
-pub fn collect(run: Record, levels: &[u16], out: &mut [u16]) -> u32
-    ensures { Collects run levels.now out.old result out.new }
+pub fn collect(run: Record, levels: &[u16], out: &mut [u16]) -> Result<(), Refusal>
+    ensures { Collects run levels.now out.old (number result) out.new }
 {
     if records::record_bad(run) {
-        return 1;
+        return Err(Refusal::Record);
     }
-    let refusal = view_refusal(run, levels, 0, out.len(), run.height * run.width);
-    if refusal != 0 {
-        return refusal;
-    }
+    check_view(run, levels, 0, out.len(), run.height * run.width)?;
     if !records::all_done(run) {
-        return 13;
+        return Err(Refusal::RowsDue);
     }
     copy_frame(levels, records::frame_of(run), kinds::reading_of(run), out);
-    0
+    Ok(())
 }
 
 // The byte of the first eight levels: a bit for each, 1 where it is held.
@@ -125,15 +130,20 @@ pub fn pack_frame(levels: &[u16], frame: Frame, bounds: Bounds, out: &mut [u8])
     }
 }
 
-// Refusals 1, 8, 10 and 11 of the sheet that the levels hold at a size, whatever rows are done, or 0.
-pub fn provisional_refusal(run: Record, levels: &[u16], size: usize, out: &[u8]) -> u32
-    ensures { result ≡ first (provisional_refusals run levels.now size out.now) }
+// Refusals 1, 8, 10 and 11 of the sheet that the levels hold at a size, whatever rows are done.
+pub fn check_provisional(
+    run: Record,
+    levels: &[u16],
+    size: usize,
+    out: &[u8],
+) -> Result<(), Refusal>
+    ensures { number result ≡ first (provisional_refusals run levels.now size out.now) }
 {
     if records::record_bad(run) {
-        return 1;
+        return Err(Refusal::Record);
     }
     let wanted = run.height * sheet::row_bytes(run.width);
-    view_refusal(run, levels, size, out.len(), wanted)
+    check_view(run, levels, size, out.len(), wanted)
 }
 
 // That sheet, packed.
@@ -150,16 +160,14 @@ pub fn pack_held(run: Record, levels: &[u16], size: usize, out: &mut [u8])
 }
 
 // Public: fills `out` with the packed sheet that a finished run holds at a size. Refusals 1, 8, 10, 11, 13.
-pub fn threshold(run: Record, levels: &[u16], size: usize, out: &mut [u8]) -> u32
-    ensures { Thresholds run levels.now size out.old result out.new }
+#[tactic(auto, using(crate::proofs::RecordLaws::not_foreign))]
+pub fn threshold(run: Record, levels: &[u16], size: usize, out: &mut [u8]) -> Result<(), Refusal>
+    ensures { Thresholds run levels.now size out.old (number result) out.new }
 {
-    let refusal = provisional_refusal(run, levels, size, out);
-    if refusal != 0 {
-        return refusal;
-    }
+    check_provisional(run, levels, size, out)?;
     if !records::all_done(run) {
-        return 13;
+        return Err(Refusal::RowsDue);
     }
     pack_held(run, levels, size, out);
-    0
+    Ok(())
 }

@@ -3,9 +3,8 @@ ghost use Rattle.std.specs.Prelude.{◌≡◌, true, false, ◌*◌, ◌^◌, �
 ghost use Rattle.basics.specs.Limits.{longest_side, highest_cap, most_rows};
 ghost use Rattle.basics.specs.Tables.{table};
 ghost use Rattle.element.specs.Elements.{is_side};
-ghost use Rattle.element.specs.Cells.{is_held};
 ghost use Rattle.run.specs.Records.{margin_of, canvas_side, area_width, area_height, due, outside, any_outside, element_foreign};
-ghost use Rattle.run.specs.Records.{kind_foreign, cap_foreign, foreign, record_bad, frame_of, empty_record};
+ghost use Rattle.run.specs.Records.{kind_foreign, cap_foreign, foreign, record_bad, frame_of};
 ghost use Rattle.run.specs.Continuing.{levels_wrong, is_done};
 ghost use Rattle.run.specs.Patches.{Canvas, level_in};
 
@@ -46,23 +45,13 @@ impl Frame {
     }
 }
 
-// Whether place `p` of seven is one of the side's, centred among the seven.
-#[tactic(auto, unfolding(element::specs::Cells::is_held))]
-fn is_held(side: usize, p: usize) -> bool
-    requires { is_side side ≡ true }
-    ensures { result ≡ is_held side p }
-{
-    let before = 3 - (side - 1) / 2;
-    before <= p && p < before + side
-}
-
 // Whether cell `k` is set though it lies outside the side's square.
 #[tactic(auto, unfolding(crate::specs::Records::outside))]
 fn is_outside(side: usize, cell: u8, k: usize) -> bool
     requires { is_side side ≡ true }
     ensures { result ≡ outside side cell k }
 {
-    cell != 0 && !(is_held(side, k / 7) && is_held(side, k % 7))
+    cell != 0 && !(element::is_held(side, k / 7) && element::is_held(side, k % 7))
 }
 
 fn any_outside(side: usize, cells: [u8; 49]) -> bool
@@ -192,15 +181,3 @@ pub fn record_bad(run: Record) -> bool
 {
     record_foreign(run) || rows_due(run) < run.rows
 }
-
-// The record beside a refusal: all zero.
-pub const NO_RECORD: Record = Record {
-    kind: 0,
-    width: 0,
-    height: 0,
-    cap: 0,
-    side: 0,
-    rows: 0,
-    cells: [0; 49],
-    edge: 0,
-};

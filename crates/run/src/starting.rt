@@ -1,24 +1,19 @@
 // Starting a run: the three starts judge their inputs, make the record, and fill the levels by it.
 ghost use Rattle.std.specs.Prelude.{◌≡◌, true, cond, ◌++◌, ◌+◌, ◌*◌, ◌<◌, ◌≤◌, eqb, length};
 ghost use Rattle.basics.specs.Limits.{longest_side, highest_cap};
-ghost use Rattle.basics.specs.Refusals.{first, Answers};
+ghost use Rattle.basics.specs.Refusals.{first, number, value_or, Answers};
 ghost use Rattle.basics.specs.Tables.{table};
 ghost use Rattle.element.specs.Elements.{is_side, element_refusals};
 ghost use Rattle.sheet.specs.Sheets.{pixel, row_bytes, sheet_refusals};
 ghost use Rattle.run.specs.Records.{margin, canvas_side, empty_record};
-ghost use Rattle.run.specs.Starting.{fresh_record, start_level, start_area, start_levels, begun, erosion_refusals, StartsErosion};
+ghost use Rattle.run.specs.Starting.{start_record, start_level, start_area, start_levels, begun, erosion_refusals, StartsErosion};
 ghost use Rattle.run.specs.Starting.{canvas_refusals, dilation_refusals, StartsDilation, StartsCropped};
 ghost use Rattle.run.specs.Patches.{Canvas};
 
+use super::kinds::Kind;
 use super::records::Frame;
 use super::{Input, Record, kinds, records};
-
-// What a start answers: the refusal number, 0 where it is accepted, and the run's record, all zero beside a refusal.
-#[derive(Clone, Copy)]
-pub struct Started {
-    pub refusal: u32,
-    pub run: Record,
-}
+use basics::Refusal;
 
 // The levels that points start with: on the foreground, on the frame's background, and in the margin.
 #[derive(Clone, Copy)]
@@ -95,22 +90,19 @@ fn fill_levels(run: Record, sheet: &[u8], levels: &mut [u16])
     fill_area(levels, records::frame_of(run), sheet, starts);
 }
 
-// Refusals 2 to 7, which all starts have, or 0.
-pub fn start_refusal(input: Input, sheet: &[u8], bytes: &[u8]) -> u32
-    ensures { result ≡ first (sheet_refusals input.width input.height sheet.now ++ element_refusals input.side bytes.now) }
+// Refusals 2 to 7, which all starts have.
+pub fn check_start(input: Input, sheet: &[u8], bytes: &[u8]) -> Result<(), Refusal>
+    ensures { number result ≡ first (sheet_refusals input.width input.height sheet.now ++ element_refusals input.side bytes.now) }
 {
-    let refusal = sheet::sheet_refusal(input.width, input.height, sheet);
-    if refusal != 0 {
-        return refusal;
-    }
-    element::element_refusal(input.side, bytes)
+    sheet::check_sheet(input.width, input.height, sheet)?;
+    element::check_element(input.side, bytes)
 }
 
-// Refusals 9 and 10 of a canvas with so many levels, or 0.
-pub fn canvas_refusal(input: Input, cap: usize, count: usize) -> u32
+// Refusals 9 and 10 of a canvas with so many levels.
+pub fn check_canvas(input: Input, cap: usize, count: usize) -> Result<(), Refusal>
     requires { (input.width ≤ longest_side) × ((input.height ≤ longest_side) ×
         ((is_side input.side ≡ true) × (cap ≤ highest_cap))) }
-    ensures { result ≡ first (canvas_refusals input.width input.height cap input.side count) }
+    ensures { number result ≡ first (canvas_refusals input.width input.height cap input.side count) }
 {
     let frame = Frame {
         width: input.width,
@@ -120,108 +112,106 @@ pub fn canvas_refusal(input: Input, cap: usize, count: usize) -> u32
     let width = frame.area_width();
     let height = frame.area_height();
     if basics::LONGEST_SIDE < width || basics::LONGEST_SIDE < height {
-        return 9;
+        return Err(Refusal::CanvasSide);
     }
     if count != height * width {
-        return 10;
+        return Err(Refusal::LevelsLength);
     }
-    0
+    Ok(())
 }
 
-// Refusals 2 to 7 and 10 of an erosion, or 0.
-pub fn erosion_refusal(input: Input, sheet: &[u8], bytes: &[u8], levels: &[u16]) -> u32
-    ensures { result ≡ first
+// Refusals 2 to 7 and 10 of an erosion.
+pub fn check_erosion(
+    input: Input,
+    sheet: &[u8],
+    bytes: &[u8],
+    levels: &[u16],
+) -> Result<(), Refusal>
+    ensures { number result ≡ first
         (erosion_refusals input.width input.height sheet.now input.side bytes.now levels.now) }
 {
-    let refusal = start_refusal(input, sheet, bytes);
-    if refusal != 0 {
-        return refusal;
-    }
+    check_start(input, sheet, bytes)?;
     if levels.len() != input.height * input.width {
-        return 10;
+        return Err(Refusal::LevelsLength);
     }
-    0
+    Ok(())
 }
 
-// Refusals 2 to 10 of a dilation, and of a cropped sheet's erosion, or 0.
-pub fn dilation_refusal(input: Input, sheet: &[u8], bytes: &[u8], cap: usize, levels: &[u16]) -> u32
-    ensures { result ≡ first
+// Refusals 2 to 10 of a dilation, and of a cropped sheet's erosion.
+pub fn check_dilation(
+    input: Input,
+    sheet: &[u8],
+    bytes: &[u8],
+    cap: usize,
+    levels: &[u16],
+) -> Result<(), Refusal>
+    ensures { number result ≡ first
         (dilation_refusals input.width input.height sheet.now input.side bytes.now cap levels.now) }
 {
-    let refusal = start_refusal(input, sheet, bytes);
-    if refusal != 0 {
-        return refusal;
-    }
+    check_start(input, sheet, bytes)?;
     if basics::HIGHEST_CAP < cap {
-        return 8;
+        return Err(Refusal::Size);
     }
-    canvas_refusal(input, cap, levels.len())
-}
-
-// A refusal, with the record all zero.
-fn refused(number: u32) -> Started
-    ensures { (result.refusal ≡ number) × (result.run ≡ empty_record) }
-{
-    Started {
-        refusal: number,
-        run: records::NO_RECORD,
-    }
+    check_canvas(input, cap, levels.len())
 }
 
 // The record of an accepted start, with no rows done.
-fn fresh_record(kind: u8, edge: u8, input: Input, cap: usize, bytes: &[u8]) -> Record
+fn start_record(kind: Kind, input: Input, cap: usize, bytes: &[u8]) -> Record
     requires { (is_side input.side ≡ true) × (length bytes.now ≡ input.side * input.side) }
-    ensures { result ≡ fresh_record kind edge input.width input.height cap input.side bytes.now }
+    ensures { result ≡ start_record kind input.width input.height cap input.side bytes.now }
 {
     Record {
-        kind,
+        kind: kinds::by_kind(kind, kinds::EROSION, kinds::DILATION, kinds::EROSION),
         width: input.width,
         height: input.height,
         cap,
         side: input.side,
         rows: 0,
         cells: element::flat_cells(element::cells_of(input.side, bytes)),
-        edge,
+        edge: kinds::by_kind(
+            kind,
+            kinds::BACKGROUND,
+            kinds::BACKGROUND,
+            kinds::FOREGROUND,
+        ),
     }
 }
 
 // Public: starts an erosion, its levels 65,535 on the foreground and 0 elsewhere. Refusals 2 to 7, 10.
-pub fn start_erosion(input: Input, sheet: &[u8], bytes: &[u8], levels: &mut [u16]) -> Started
-    ensures { StartsErosion input.width input.height sheet.now input.side bytes.now levels.old result.refusal
-        (result.run, levels.new) }
+pub fn start_erosion(
+    input: Input,
+    sheet: &[u8],
+    bytes: &[u8],
+    levels: &mut [u16],
+) -> Result<Record, Refusal>
+    ensures { StartsErosion input.width input.height sheet.now input.side bytes.now levels.old (number result)
+        (value_or empty_record result, levels.new) }
 {
-    let refusal = erosion_refusal(input, sheet, bytes, levels);
-    if refusal != 0 {
-        return refused(refusal);
-    }
-    let run = fresh_record(kinds::EROSION, kinds::BACKGROUND, input, 0, bytes);
+    check_erosion(input, sheet, bytes, levels)?;
+    let run = start_record(Kind::Eroding, input, 0, bytes);
     fill_levels(run, sheet, levels);
-    Started { refusal: 0, run }
+    Ok(run)
 }
 
-// A start on the canvas of a cap, with a kind and an edge rule: a dilation's, and a cropped sheet's. Refusals 2 to 10.
+// A start on the canvas of a cap: a dilation's, and a cropped sheet's. Refusals 2 to 10.
 pub fn start_on_canvas(
-    kind: u8,
-    edge: u8,
+    kind: Kind,
     input: Input,
     sheet: &[u8],
     bytes: &[u8],
     cap: usize,
     levels: &mut [u16],
-) -> Started
+) -> Result<Record, Refusal>
     ensures { Answers
         (dilation_refusals input.width input.height sheet.now input.side bytes.now cap levels.old)
         (empty_record, levels.old)
-        (λ after. after ≡ begun (fresh_record kind edge input.width input.height cap input.side bytes.now) sheet.now)
-        result.refusal (result.run, levels.new) }
+        (λ after. after ≡ begun (start_record kind input.width input.height cap input.side bytes.now) sheet.now)
+        (number result) (value_or empty_record result, levels.new) }
 {
-    let refusal = dilation_refusal(input, sheet, bytes, cap, levels);
-    if refusal != 0 {
-        return refused(refusal);
-    }
-    let run = fresh_record(kind, edge, input, cap, bytes);
+    check_dilation(input, sheet, bytes, cap, levels)?;
+    let run = start_record(kind, input, cap, bytes);
     fill_levels(run, sheet, levels);
-    Started { refusal: 0, run }
+    Ok(run)
 }
 
 // Public: starts a dilation on the canvas, its levels 1 on the foreground and 65,535 elsewhere. Refusals 2 to 10.
@@ -231,19 +221,11 @@ pub fn start_dilation(
     bytes: &[u8],
     cap: usize,
     levels: &mut [u16],
-) -> Started
+) -> Result<Record, Refusal>
     ensures { StartsDilation input.width input.height sheet.now input.side bytes.now cap levels.old
-        result.refusal (result.run, levels.new) }
+        (number result) (value_or empty_record result, levels.new) }
 {
-    start_on_canvas(
-        kinds::DILATION,
-        kinds::BACKGROUND,
-        input,
-        sheet,
-        bytes,
-        cap,
-        levels,
-    )
+    start_on_canvas(Kind::Dilating, input, sheet, bytes, cap, levels)
 }
 
 // Public: starts the erosion of a cropped sheet, with foreground beyond the frame, its levels 1 on the frame's background and 65,535
@@ -254,17 +236,9 @@ pub fn start_cropped(
     bytes: &[u8],
     cap: usize,
     levels: &mut [u16],
-) -> Started
+) -> Result<Record, Refusal>
     ensures { StartsCropped input.width input.height sheet.now input.side bytes.now cap levels.old
-        result.refusal (result.run, levels.new) }
+        (number result) (value_or empty_record result, levels.new) }
 {
-    start_on_canvas(
-        kinds::EROSION,
-        kinds::FOREGROUND,
-        input,
-        sheet,
-        bytes,
-        cap,
-        levels,
-    )
+    start_on_canvas(Kind::Cropping, input, sheet, bytes, cap, levels)
 }

@@ -21,7 +21,8 @@ use Rattle.grid.specs.Sizes.{dilated_by_sizes}
 use Rattle.grid.proofs.PointLaws.{⊕-assoc, ⊕-comm, ⊕-cancel, ⊖_cancel, ⊕-move, neg_neg}
 use Rattle.grid.proofs.SetLaws.{fold_grows, fold_reflect}
 use Rattle.grid.proofs.ReachLaws.{fold_reach}
-use Rattle.row.specs.RowRule.{Area, none}
+use Rattle.row.specs.declared.Area.{Area}
+use Rattle.row.specs.RowRule.{none}
 use Rattle.scan.specs.Look.{look, full_scan, cap}
 use Rattle.scan.specs.Starts.{OwnStart, DilationStart}
 use Rattle.scan.proofs.Walks.{Walk, stop}

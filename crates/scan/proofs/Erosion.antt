@@ -16,7 +16,8 @@ use Rattle.grid.specs.Figures.{frame}
 use Rattle.grid.proofs.SetLaws.{fold_grows}
 use Rattle.grid.proofs.ReachLaws.{times, times_fold, leaves}
 use Rattle.grid.proofs.Searches.{frame_decided}
-use Rattle.row.specs.RowRule.{Area, none}
+use Rattle.row.specs.declared.Area.{Area}
+use Rattle.row.specs.RowRule.{none}
 use Rattle.scan.specs.Look.{look, full_scan}
 use Rattle.scan.specs.Starts.{ErosionStart}
 use Rattle.scan.proofs.GridScans.{GridScan, same_partners, grid_sound, grid_bound}

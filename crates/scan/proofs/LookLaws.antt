@@ -18,7 +18,8 @@ use Rattle.grid.specs.Sets.{PointSet}
 use Rattle.grid.specs.Figures.{frame}
 use Rattle.grid.proofs.PointLaws.{pos_inj, sum_diff, diff_sum}
 use Rattle.grid.proofs.Searches.{frame_decided}
-use Rattle.row.specs.RowRule.{Area, cell_number, within, level_at, partner, none}
+use Rattle.row.specs.declared.Area.{Area}
+use Rattle.row.specs.RowRule.{cell_number, within, level_at, partner, none}
 use Rattle.scan.specs.Look.{look, level_on, offset}
 
 -- the point at a row and a column

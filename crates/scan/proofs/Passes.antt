@@ -14,7 +14,8 @@ use Rattle.grid.specs.Points.{Point, ◌⊕◌}
 use Rattle.grid.specs.Sets.{PointSet}
 use Rattle.grid.specs.Figures.{frame}
 use Rattle.grid.proofs.Searches.{frame_decided}
-use Rattle.row.specs.RowRule.{Area, none, more, cell_number, partner, least, first_met, lowered, point_rule}
+use Rattle.row.specs.declared.Area.{Area}
+use Rattle.row.specs.RowRule.{none, more, cell_number, partner, least, first_met, lowered, point_rule}
 use Rattle.row.proofs.Least.{least_as}
 use Rattle.scan.specs.Look.{look, offset}
 use Rattle.scan.proofs.Walks.{OnePass}

@@ -14,7 +14,8 @@ use lib.ListN.{length}
 use Rattle.basics.proofs.Arithmetic.{row_of, column_of, row_below, column_below, entry_of, entry_below}
 use Rattle.grid.specs.Points.{Point, ◌⊕◌}
 use Rattle.grid.proofs.PointLaws.{⊕-origin}
-use Rattle.row.specs.RowRule.{Area, none, cell_number, first_met, place, columns, row_rule}
+use Rattle.row.specs.declared.Area.{Area}
+use Rattle.row.specs.RowRule.{none, cell_number, first_met, place, columns, row_rule}
 use Rattle.row.proofs.Own.{place_below, place_back}
 use Rattle.scan.specs.Scan.{scan_row, scan_rows}
 use Rattle.scan.specs.Look.{look, full_scan, offset, partners}

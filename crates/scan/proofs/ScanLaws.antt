@@ -10,7 +10,8 @@ use native.Mathlib.Nat.{zero-add, add-zero, suc-add, add-suc, add_assoc, suc-mul
 use native.Mathlib.Omega.{arith}
 use lib.Dec.{ltb, ltb→lt, nltb→le}
 use lib.ListN.{length, get_or, set, length-set}
-use Rattle.row.specs.RowRule.{Area, point_rule, lowered, row_rule, points_lowered}
+use Rattle.row.specs.declared.Area.{Area}
+use Rattle.row.specs.RowRule.{point_rule, lowered, row_rule, points_lowered}
 use Rattle.row.proofs.RuleLaws.{rule_keeps}
 use Rattle.row.proofs.Lowered.{lowered_most}
 use Rattle.scan.specs.Scan.{area, Lent, scan_row, scan_rows, rows_lowered}

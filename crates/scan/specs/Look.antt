@@ -3,7 +3,8 @@
 use Rattle.std.specs.Prelude.{◌≡◌, ◌≢◌, cond, ◌&&◌, List, ℕ, suc, ◌+◌, ◌*◌, ◌/◌, ◌%◌, ◌<◌, leb, ltb, ℤ, pos, negsuc, ◌-ℤ◌, get_or}
 use Rattle.grid.specs.Points.{Point, at}
 use Rattle.grid.specs.Sets.{PointSet}
-use Rattle.row.specs.RowRule.{Area, cell_number}
+use Rattle.row.specs.declared.Area.{Area}
+use Rattle.row.specs.RowRule.{cell_number}
 use Rattle.scan.specs.Scan.{scan_rows}
 
 -- the levels after all rows down and all rows up

@@ -1,7 +1,8 @@
 -- A scan of rows: rows 1 to H go top to bottom, rows H + 1 to 2H bottom to top.
 use Rattle.std.specs.Prelude.{ℕ, zero, suc, ◌+◌, ◌-◌, ◌*◌, ◌/◌, ◌≤◌, ◌<◌, ◌≡◌, ◌≢◌, ◌⊎◌, length, Bool, true, false, cond, List, ltb}
 use Rattle.basics.specs.Limits.{longest_side}
-use Rattle.row.specs.RowRule.{Area, cell_number, first_met, row_rule, points_lowered}
+use Rattle.row.specs.declared.Area.{Area}
+use Rattle.row.specs.RowRule.{cell_number, first_met, row_rule, points_lowered}
 
 -- the row that is worked after `done` rows
 unfoldable pub scan_row : Area → ℕ → List ℕ → List ℕ

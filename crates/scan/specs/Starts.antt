@@ -3,7 +3,8 @@ use Rattle.std.specs.Prelude.{◌≡◌, ◌≢◌, List, ℕ, suc, ◌+◌, ◌
 use Rattle.grid.specs.Points.{Point, at, origin}
 use Rattle.grid.specs.Sets.{PointSet, reflect, ◌⊆◌, ◌≈◌}
 use Rattle.grid.specs.Figures.{frame}
-use Rattle.row.specs.RowRule.{Area, none}
+use Rattle.row.specs.declared.Area.{Area}
+use Rattle.row.specs.RowRule.{none}
 use Rattle.scan.specs.Look.{partners}
 
 -- An erosion is worked on the frame: 65,535 on A and 0 elsewhere in the frame and beyond it. The partners are K.

@@ -3,8 +3,7 @@ use Prim.Native.Nat.{ℕ, ◌*◌, ◌≤◌}
 use native.Mathlib.Nat.{mul-le-mul}
 use native.Mathlib.Omega.{arith}
 use mathlib.Core.Path.{◌≡◌}
-use mathlib.Core.Bool.{true, false, not, ◌||◌}
-use mathlib.Core.Logic.{◌≢◌}
+use mathlib.Core.Bool.{false, not, ◌||◌}
 use mathlib.Core.List.{List, [], ◌∷◌}
 use lib.Dec.{eqb, ltb}
 use lib.ListN.{length}
@@ -12,18 +11,10 @@ use borrow.Author.Tests.{eq-eqb, ne_eqb, eqb-true, eqb-false, ltb-false, not-fal
 use Rattle.basics.specs.Limits.{longest_side}
 use Rattle.basics.specs.Refusals.{Refusal, first}
 use Rattle.basics.proofs.BoundLaws.{neither}
-use Rattle.basics.proofs.RefusalLaws.{judged_first, judged_next, first_both, passed}
+use Rattle.basics.proofs.RefusalLaws.{judged_next, first_both, passed}
 use Rattle.sheet.specs.Sheets.{row_bytes, is_side_out, frame_refusals, sheet_refusals}
 
 module _ (side : ℕ) where
-  pub side_zero : side ≡ 0 → true ≡ is_side_out side
-  unfolding is_side_out
-  side_zero e = rw (eq-eqb side 0 e)
-
-  pub side_positive : side ≢ 0 → ltb longest_side side ≡ is_side_out side
-  unfolding is_side_out
-  side_positive n = rw (ne_eqb side 0 n)
-
   pub side_fits : 1 ≤ side → side ≤ longest_side → is_side_out side ≡ false
   unfolding is_side_out
   side_fits a b = rw (ne_eqb side 0 (λ z. absurd (omega arith)), le-ltb longest_side side b)
@@ -36,12 +27,6 @@ module _ (side : ℕ) where
       (omega arith, ltb-false longest_side side h.1)
 
 module _ (width height : ℕ) where
-  pub refuse_width : is_side_out width ≡ true → 2 ≡ first (frame_refusals width height)
-  refuse_width e = rw e
-
-  pub refuse_height : is_side_out width ≡ false → is_side_out height ≡ true → 2 ≡ first (frame_refusals width height)
-  refuse_height e f = rw (e, f)
-
   pub accept_frame : is_side_out width ≡ false → is_side_out height ≡ false → 0 ≡ first (frame_refusals width height)
   accept_frame e f = rw (e, f)
 
@@ -62,15 +47,7 @@ module _ (width height : ℕ) where
     abbrev bytes_wrong : List Refusal
     bytes_wrong = (3, not (eqb (length bytes) (height * row_bytes width))) ∷ []
 
-    pub refuse_frame : (number : ℕ) → number ≢ 0 → number ≡ first (frame_refusals width height)
-        → number ≡ first (sheet_refusals width height bytes)
-    refuse_frame number n e = judged_first (frame_refusals width height) bytes_wrong n e
-
     module _ (f : first (frame_refusals width height) ≡ 0) where
-      pub refuse_bytes : length bytes ≢ height * row_bytes width → 3 ≡ first (sheet_refusals width height bytes)
-      refuse_bytes n = judged_next (frame_refusals width height) bytes_wrong tt f
-          (rw (ne_eqb (length bytes) (height * row_bytes width) n))
-
       pub accept_sheet : length bytes ≡ height * row_bytes width → 0 ≡ first (sheet_refusals width height bytes)
       accept_sheet e = judged_next (frame_refusals width height) bytes_wrong tt f
           (rw (eq-eqb (length bytes) (height * row_bytes width) e))

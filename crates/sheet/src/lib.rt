@@ -3,8 +3,10 @@
 
 ghost use Rattle.std.specs.Prelude.{◌≡◌, ◌+◌, ◌*◌, ◌/◌, ◌<◌, ◌≤◌, length};
 ghost use Rattle.basics.specs.Limits.{longest_side};
-ghost use Rattle.basics.specs.Refusals.{first};
+ghost use Rattle.basics.specs.Refusals.{first, number};
 ghost use Rattle.sheet.specs.Sheets.{row_bytes, is_side_out, frame_refusals, sheet_refusals, pixel};
+
+use basics::Refusal;
 
 // The bytes of a row.
 pub fn row_bytes(width: usize) -> usize
@@ -14,40 +16,32 @@ pub fn row_bytes(width: usize) -> usize
     (width + 7) / 8
 }
 
+#[tactic(auto, unfolding(crate::specs::Sheets::is_side_out))]
 pub fn is_side_out(side: usize) -> bool
     ensures { result ≡ is_side_out side }
 {
-    if side == 0 {
-        return true;
-    }
-    basics::LONGEST_SIDE < side
+    side == 0 || basics::LONGEST_SIDE < side
 }
 
-// Refusal 2 of a frame, or 0.
-pub fn frame_refusal(width: usize, height: usize) -> u32
-    ensures { result ≡ first (frame_refusals width height) }
+// Refusal 2 of a frame.
+pub fn check_frame(width: usize, height: usize) -> Result<(), Refusal>
+    ensures { number result ≡ first (frame_refusals width height) }
 {
-    if is_side_out(width) {
-        return 2;
+    if is_side_out(width) || is_side_out(height) {
+        return Err(Refusal::FrameSide);
     }
-    if is_side_out(height) {
-        return 2;
-    }
-    0
+    Ok(())
 }
 
-// Refusals 2 and 3 of a sheet, or 0.
-pub fn sheet_refusal(width: usize, height: usize, sheet: &[u8]) -> u32
-    ensures { result ≡ first (sheet_refusals width height sheet.now) }
+// Refusals 2 and 3 of a sheet.
+pub fn check_sheet(width: usize, height: usize, sheet: &[u8]) -> Result<(), Refusal>
+    ensures { number result ≡ first (sheet_refusals width height sheet.now) }
 {
-    let refusal = frame_refusal(width, height);
-    if refusal != 0 {
-        return refusal;
-    }
+    check_frame(width, height)?;
     if sheet.len() != height * row_bytes(width) {
-        return 3;
+        return Err(Refusal::SheetLength);
     }
-    0
+    Ok(())
 }
 
 // The pixel at a row and a column of the frame.

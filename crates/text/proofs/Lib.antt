@@ -1,2 +1,1 @@
 pub mod WroteLaws
-pub mod CopyLaws

@@ -1,32 +1,33 @@
-use Rattle.decimal.proofs.LoopLaws.{reading_start, reading_turn, reading_stop, reading_end}
-use native.Mathlib.Omega.{arith}
-use mathlib.Core.Path.{sym, ◌∙◌}
+-- The bytes counted are the run, and all of them are read.
+use Rattle.std.proofs.Common.{◌≡◌, ◌+◌, ◌-◌, arith, length, take, drop, rules, tests}
+use Rattle.std.specs.Char.{is_ascii_digit}
+use Rattle.std.proofs.lemmas.Iterator.{YieldsList-from_slice}
+use Rattle.std.proofs.lemmas.Iterator.Search.{YieldsList-from_take_while}
+use Rattle.std.proofs.lemmas.Iterator.Consumers.{count_from_yields_List}
+use Rattle.std.proofs.lemmas.List.{take_all}
+use Rattle.std.proofs.Math.ListN.{length-drop}
+use Rattle.decimal.specs.Numbers.{value_from}
+use Rattle.decimal.proofs.LoopLaws.{run_counted, value_turn}
 use Rattle.decimal.proofs.read_number.Goals as goal
 
-pub loop-i-init : goal.loop-i-init
-loop-i-init c = reading_start c.args.file.now c.args.at c.args.limit c.requires.0
+pub loop-byte-init : goal.loop-byte-init
+unfolding value_from
+loop-byte-init c = omega arith
 
-pub returns-then-not-is_digit : goal.returns-then-not-is_digit
-returns-then-not-is_digit c =
-    let loop = c.loop-i in
-    let loop_test = c.loop-i-test in
-    reading_stop loop.invariant loop_test.true (sym c.is_digit.ensures ∙ c.if-not-is_digit.true)
-
-pub read_on-sum-requires : goal.read_on-sum-requires
-read_on-sum-requires c = (
-  c.loop-i.invariant.small,
-  (omega arith, sym c.is_digit.ensures ∙ c.if-not-is_digit.false),
-)
-
-pub loop-i-smaller : goal.loop-i-smaller
-loop-i-smaller c = omega arith
-
-pub loop-i-preserved : goal.loop-i-preserved
-loop-i-preserved c =
-    let loop = c.loop-i in
-    let loop_test = c.loop-i-test in
-    reading_turn loop.invariant loop_test.true (sym c.is_digit.ensures ∙ c.if-not-is_digit.false)
-    c.read_on-sum.result c.read_on-sum.ensures
+pub loop-byte-preserved : goal.loop-byte-preserved
+loop-byte-preserved c =
+    let row = take (c.args.at + c.count-count.result - c.args.at) (drop c.args.at c.args.file.now) in
+    let e = value_turn row c.loop-byte.byte-index c.args.limit c.loop-byte.value c.loop-byte-test.true c.loop-byte.invariant in
+    cc
 
 pub returns : goal.returns
-returns c = reading_end c.loop-i.invariant c.loop-i-test.false
+returns c =
+    let rest = drop c.args.at c.args.file.now in
+    let lent : take (length c.args.file.now - c.args.at) rest ≡ rest = take_all _ rest (simp length-drop (omega arith)) in
+    let run = run_counted rest c.count-count.result (count_from_yields_List c.take_while.result _ c.count-count.ensures.ran
+    (YieldsList-from_take_while _ is_ascii_digit (YieldsList-from_slice rest cc) c.take_while.ensures.closure
+    c.take_while.ensures.done (λ x b q k. search (rules, tests)))) in
+    let part : c.args.at + c.count-count.result - c.args.at ≡ c.count-count.result = omega arith in
+    let row = take (c.args.at + c.count-count.result - c.args.at) rest in
+    let read = take_all c.loop-byte.byte-index row c.loop-byte-test.false in
+    (omega arith, cc (run.1, c.loop-byte.invariant))

@@ -1,11 +1,9 @@
--- The run from here on, with what was read, is worth the same as the whole run, up to the limit.
-use Rattle.decimal.proofs.LoopLaws.{Reading}
-use Prim.Native.Nat.{◌-◌}
-use lib.ListN.{length}
+-- What was read is the value of the run so far, or the limit.
+use Rattle.decimal.specs.Numbers.{value}
+use Prim.Native.Nat.{min}
+use mathlib.Core.Path.{◌≡◌}
+use lib.ListN.{take}
 use Rattle.decimal.proofs.read_number.Given as goal
 
-abbrev pub invariant-loop-i : goal.invariant-loop-i
-invariant-loop-i l = Reading l.file l.at l.limit l.sum l.i
-
-abbrev pub decreases-loop-i : goal.decreases-loop-i
-decreases-loop-i l = length l.file - l.i
+abbrev pub invariant-loop-byte : goal.invariant-loop-byte
+invariant-loop-byte l = l.value ≡ min (value (take l.byte-index l.byte-items)) l.limit

@@ -2,8 +2,5 @@
 use Rattle.decimal.proofs.LoopLaws.{Writing}
 use Rattle.decimal.proofs.write_number.Given as goal
 
-abbrev pub invariant-loop-left : goal.invariant-loop-left
-invariant-loop-left l = Writing l.n l.at l.initial.out l.left l.i l.out
-
-abbrev pub decreases-loop-left : goal.decreases-loop-left
-decreases-loop-left l = l.left
+abbrev pub invariant-loop-i : goal.invariant-loop-i
+invariant-loop-i l = Writing l.n l.at l.initial.out l.left l.i l.out

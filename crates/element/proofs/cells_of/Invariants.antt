@@ -1,12 +1,10 @@
--- The seven rows are filled one by one.
-use Rattle.basics.specs.Tables.{table}
-use Rattle.basics.proofs.TableLaws.{Filling}
+-- The cells are filled in reading order.
 use Rattle.element.specs.Cells.{centred_cell}
-use Prim.Native.Nat.{◌-◌}
+use Rattle.element.proofs.Seven.{Filled}
 use Rattle.element.proofs.cells_of.Given as goal
 
 abbrev pub invariant-loop-row : goal.invariant-loop-row
-invariant-loop-row l = Filling 7 (λ k. table 7 (centred_cell l.side l.bytes k)) l.row l.out
+invariant-loop-row l = Filled (centred_cell l.side l.bytes) l.row 0 l.out
 
-abbrev pub decreases-loop-row : goal.decreases-loop-row
-decreases-loop-row l = 7 - l.row
+abbrev pub invariant-loop-col : goal.invariant-loop-col
+invariant-loop-col l = Filled (centred_cell l.side l.bytes) l.row l.col l.out

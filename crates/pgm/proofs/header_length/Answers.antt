@@ -20,5 +20,5 @@ overflow_add-result-5 c = let b = header_bound _ _ _ _ _ c.requires.1 in omega a
 
 pub returns : goal.returns
 returns c =
-    let args = c.args in
-    let s = header_size args.magic.now args.done args.due args.width args.height args.maximum in omega arith
+    let h = c.args.header in
+    let s = header_size c.args.magic.now h.done h.due h.width h.height h.maximum in omega arith

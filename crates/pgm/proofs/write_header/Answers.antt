@@ -1,26 +1,23 @@
--- The lines up to the remark, and those after it.
-use Rattle.pgm.proofs.HeaderLaws.{header_first, header_second, header_wrote}
+-- The pieces one after the other.
+use Rattle.std.proofs.Common.{length}
+use Rattle.text.proofs.WroteLaws.{room_first, wrote_both, wrote_as, fits_as}
+use Rattle.pgm.proofs.HeaderLaws.{header_pieces, header_made}
 use Rattle.pgm.proofs.write_header.Goals as goal
-
-pub write_remark-next-requires : goal.write_remark-next-requires
-write_remark-next-requires c =
-    let args = c.args in
-    let pre = c.requires in
-    header_first args.magic.now args.done args.due args.width args.height args.maximum args.at
-    args.out.now pre
-
-pub write_sizes-requires : goal.write_sizes-requires
-write_sizes-requires c =
-    let args = c.args in
-    let pre = c.requires in
-    let write_remark = c.write_remark-next in
-    header_second args.magic.now args.done args.due args.width args.height args.maximum args.at
-    args.out.now pre write_remark.ensures
 
 pub returns : goal.returns
 returns c =
     let args = c.args in
-    let pre = c.requires in
-    let write_remark = c.write_remark-next in
-    header_wrote args.magic.now args.done args.due args.width args.height args.maximum args.at
-    args.out.now pre write_remark.ensures c.write_sizes.ensures
+    let h = args.header in
+    let made = header_made args.magic.now h.done h.due h.width h.height h.maximum in
+    let room = fits_as _ _ args.at (length args.out.now) made c.requires in
+    let before_end = room_first _ _ _ _ room in
+    let before_maximum = room_first _ _ _ _ before_end in
+    let before_sides = room_first _ _ _ _ before_maximum in
+    wrote_as _ _ made
+    (wrote_both _ _ _ _ room
+    (wrote_both _ _ _ _ before_end
+    (wrote_both _ _ _ _ before_maximum
+    (wrote_both _ _ _ _ before_sides c.write_bytes-next.ensures c.write_pair-next.ensures)
+    c.write_pair-next-2.ensures)
+    c.write_labelled-next.ensures)
+    c.write_bytes.ensures)

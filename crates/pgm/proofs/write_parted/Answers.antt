@@ -11,6 +11,6 @@ returns c =
     let write_number = c.write_number-next in
     let number = write_number in
     wrote_parted args.level args.column args.at args.out.now number.new.out number.result
-    c.parting_byte-byte.result pre.1
+    c.parting_byte.result pre.1
     (wrote_number args.level (args.at + 1) args.out.now number.new.out number.result number.ensures)
-    c.parting_byte-byte.ensures
+    c.parting_byte.ensures

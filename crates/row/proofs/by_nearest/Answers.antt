@@ -1,83 +1,56 @@
 use native.Mathlib.Omega.{arith}
-use Prim.Native.Nat.{◌+◌, ◌≤◌, ◌<◌}
-use mathlib.Core.Path.{◌≡◌, refl, ◌∙◌}
-use Rattle.row.specs.RowRule.{none}
+use Prim.Native.Nat.{◌+◌, ◌-◌, ◌*◌, ◌<◌}
+use mathlib.Core.Path.{◌≡◌}
+use lib.ListN.{length}
 use Rattle.row.proofs.Own.{place_below, place_apart, near_start, near_turn, near_two}
 use Rattle.row.proofs.by_nearest.Goals as goal
 
-pub loop-t-init : goal.loop-t-init
-loop-t-init c =
-    let args = c.args in
-    let small : args.beyond ≤ none = omega arith in
-    (omega arith, (refl, rw c.wide-near.ensures.0 (near_start _ _ _ _ small)))
+pub loop-pair-init : goal.loop-pair-init
+loop-pair-init c = rw c.from-near.ensures (near_start _ _ _ _ (omega arith))
 
 pub lower_two-near-requires : goal.lower_two-near-requires
 lower_two-near-requires c =
-    let args = c.args in
-    let loop = c.loop-t in
-    let loop_test = c.loop-t-test in
-    let column = c.column-first in
-    let column2 = c.column in
-    let first : column.result < args.width = rw column.ensures (place_below _ _ _ (omega arith)) in
-    let second : column2.result < args.width = rw column2.ensures (place_below _ _ _ loop_test.true) in (
-      omega arith,
+    let upward = c.args.upward in
+    let width = length c.args.worked.now in
+    let t = 2 * c.loop-pair.pair in
+    let turn : t + 1 < width = omega arith in
+    let first = place_below upward width t (omega arith) in
+    let second = place_below upward width (t + 1) turn in (
+      omega (arith, c.column-first.ensures),
       (
-        omega arith,
+        omega (arith, c.column.ensures),
         (
-          rw (column.ensures, column2.ensures) (place_apart _ _ _ _ (omega arith) loop_test.true (λ q. omega arith)),
-          loop.invariant.1.1.small,
+          rw (c.column-first.ensures, c.column.ensures) (place_apart upward width t (t + 1) (omega arith) turn (λ q. omega arith)),
+          c.loop-pair.invariant.small,
         ),
       ),
     )
 
-pub loop-t-preserved : goal.loop-t-preserved
-loop-t-preserved c =
-    let args = c.args in
-    let loop = c.loop-t in
-    let loop_test = c.loop-t-test in
-    let column = c.column-first in
-    let column2 = c.column in
-    let lower_two = c.lower_two-near in (
-      omega arith,
-      (
-        lower_two.auto.worked ∙ loop.invariant.1.0,
-        near_two args.upward args.width args.beyond loop.t loop.near lower_two.result args.worked.now
-            loop.worked lower_two.new.worked loop_test.true (omega arith) loop.invariant.1.1
-            (rw (column.ensures, column2.ensures) at lower_two.ensures),
-      ),
-    )
+pub loop-pair-preserved : goal.loop-pair-preserved
+loop-pair-preserved c =
+    let loop = c.loop-pair in
+    let next : 2 * (loop.pair + 1) ≡ 2 * loop.pair + 2 = omega arith in
+    rw next (near_two c.args.upward _ c.args.beyond (2 * loop.pair) loop.near c.lower_two-near.result c.args.worked.now loop.worked
+    c.lower_two-near.new.worked (omega arith) (omega arith) loop.invariant
+    (rw (c.column-first.ensures, c.column.ensures) at c.lower_two-near.ensures))
 
 pub lower_to_least-requires : goal.lower_to_least-requires
 lower_to_least-requires c =
-    let args = c.args in
-    let column3 = c.column-then-t-width in
-    let last : column3.result < args.width = rw column3.ensures (place_below _ _ _ c.if-t-width.true) in
-    omega arith
+    let width = length c.args.worked.now in
+    let last = place_below c.args.upward width (width - 1) (omega arith) in
+    omega (arith, c.column-then-width-eq1.ensures)
 
-pub shape_of-worked-then-t-width : goal.shape_of-worked-then-t-width
-shape_of-worked-then-t-width c =
-    let loop = c.loop-t in
-    let lower_to_least = c.lower_to_least in
-    lower_to_least.auto.worked ∙ loop.invariant.1.0
+pub returns-then-width-eq1 : goal.returns-then-width-eq1
+returns-then-width-eq1 c =
+    let loop = c.loop-pair in
+    let width = length c.args.worked.now in
+    let last : width - 1 ≡ 2 * loop.pair = omega arith in
+    let all : 2 * loop.pair + 1 ≡ width = omega arith in
+    let lowest = rw (c.column-then-width-eq1.ensures, c.from-none.ensures, last) at c.lower_to_least.ensures in
+    rw all at (near_turn c.args.upward width c.args.beyond (2 * loop.pair) loop.near c.lower_to_least.result c.args.worked.now
+    loop.worked c.lower_to_least.new.worked (omega arith) (omega arith) loop.invariant lowest).so_far
 
-pub returns-then-t-width : goal.returns-then-t-width
-returns-then-t-width c =
-    let args = c.args in
-    let loop = c.loop-t in
-    let if1 = c.if-t-width in
-    let column3 = c.column-then-t-width in
-    let lower_to_least = c.lower_to_least in
-    let lowest = rw (column3.ensures, c.wide-none.ensures.0) at lower_to_least.ensures in
-    let all : loop.t + 1 ≡ args.width = omega arith in
-    rw all at (near_turn args.upward args.width args.beyond loop.t loop.near lower_to_least.result args.worked.now
-    loop.worked lower_to_least.new.worked if1.true (omega arith) loop.invariant.1.1 lowest).so_far
-
-pub shape_of-worked-else-t-width : goal.shape_of-worked-else-t-width
-shape_of-worked-else-t-width c = c.loop-t.invariant.1.0
-
-pub returns-else-t-width : goal.returns-else-t-width
-returns-else-t-width c =
-    let args = c.args in
-    let loop = c.loop-t in
-    let all : loop.t ≡ args.width = omega arith in
-    rw all at loop.invariant.1.1.so_far
+pub returns-else-width-eq1 : goal.returns-else-width-eq1
+returns-else-width-eq1 c =
+    let all : 2 * c.loop-pair.pair ≡ length c.args.worked.now = omega arith in
+    rw all at c.loop-pair.invariant.so_far

@@ -5,19 +5,19 @@ use mathlib.Core.Path.{◌≡◌}
 use Rattle.row.specs.RowRule.{cell_number}
 use Rattle.row.specs.Passes.{cell_back, leads_back}
 use Rattle.row.proofs.leads_back.Goals as goal
+use Rattle.row.proofs.leads_back.Goals.{then-upward, else-upward}
 
-pub returns-then-upward : goal.returns-then-upward
+pub returns : goal.returns
 unfolding cell_number cell_back leads_back
-returns-then-upward c =
+returns c =
     let d = c.args.d in
-    let r : (24 + d) / 7 ≡ 3 = omega arith in
-    let k : (24 + d) % 7 ≡ 3 + d = omega arith in
-    rw (c.if-upward.true, r, k)
-
-pub returns-else-upward : goal.returns-else-upward
-unfolding cell_number cell_back leads_back
-returns-else-upward c =
-    let d = c.args.d in
-    let r : (24 - d) / 7 ≡ 3 = omega arith in
-    let k : (24 - d) % 7 ≡ 3 - d = omega arith in
-    rw (c.if-upward.false, r, k)
+    elim c.if-upward.branch [
+      | then-upward w ↦
+          let r : (24 + d) / 7 ≡ 3 = omega arith in
+          let k : (24 + d) % 7 ≡ 3 + d = omega arith in
+          rw (w.if-upward.true, w.col-is, r, k)
+      | else-upward w ↦
+          let r : (24 - d) / 7 ≡ 3 = omega arith in
+          let k : (24 - d) % 7 ≡ 3 - d = omega arith in
+          rw (w.if-upward.false, w.col-is, r, k)
+    ]

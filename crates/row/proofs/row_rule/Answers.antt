@@ -1,57 +1,39 @@
 -- The row taken, worked by the other rows and by itself, and stored, is the whole rule.
-use native.Mathlib.Omega.{arith}
+use borrow.Author.Rules.{rules}
+use Rattle.std.proofs.lemmas.List.{places}
+use Prim.Native.Nat.{ℕ, ◌<◌, ◌+◌, ◌-◌, ◌*◌, ◌≤◌}
+use lib.ListN.{length, get_or}
 use mathlib.Core.List.{List}
-use Prim.Native.Nat.{ℕ}
-use Rattle.row.specs.RowRule.{Area}
+use borrow.Rule.Slice.PartMut.{mid_of}
+use native.Mathlib.Omega.{arith}
+use mathlib.Core.Path.{◌≡◌, ◌∙◌, sym, ap}
 use Rattle.row.proofs.Least.{row_end}
+use Rattle.row.proofs.Lowered.{lowered_part}
+use Rattle.row.proofs.Pass.{put_part}
 use Rattle.row.proofs.Whole.{whole}
 use Rattle.row.proofs.row_rule.Goals as goal
 
-abbrev the_area : ℕ → ℕ → ℕ → List (List ℕ) → Area
-the_area width rows beyond cells = record { width = width; height = rows; beyond = beyond; cells = cells }
-
-pub overflow_mul-row : goal.overflow_mul-row
-overflow_mul-row c =
-    omega (arith, row_end c.args.width c.args.row c.args.rows c.requires.1.0)
-
-pub take_row-requires : goal.take_row-requires
-take_row-requires c =
-    (c.requires.1.1.1.1, (rw c.requires.0 (row_end c.args.width c.args.row c.args.rows c.requires.1.0)))
-
-pub by_other_rows-requires : goal.by_other_rows-requires
-by_other_rows-requires c =
-    let take_row = c.take_row in (
-      c.requires.0,
-      (c.requires.1.0, (rw take_row.auto.worked c.requires.1.1.1.1, c.requires.1.1.1.0)),
-    )
-
-pub by_own_row-requires : goal.by_own_row-requires
-by_own_row-requires c =
-    let take_row = c.take_row in
-    let by_other_rows = c.by_other_rows in
-    rw (by_other_rows.auto.worked, take_row.auto.worked) c.requires.1.1.1.1
-
-pub overflow_mul-row-2 : goal.overflow_mul-row-2
-overflow_mul-row-2 c =
-    omega (arith, row_end c.args.width c.args.row c.args.rows c.requires.1.0)
-
-pub settle-requires : goal.settle-requires
-settle-requires c =
-    let take_row = c.take_row in
-    let by_other_rows = c.by_other_rows in
-    let by_own_row = c.by_own_row in (
-      (rw c.requires.0 (row_end c.args.width c.args.row c.args.rows c.requires.1.0)),
-      (rw (by_own_row.auto.worked, by_other_rows.auto.worked, take_row.auto.worked) c.requires.1.1.1.1, c.requires.1.1.0),
-    )
+lent : (start n : ℕ) (levels : List ℕ) (col : ℕ) → col < n → get_or (mid_of start n levels) col 0 ≡ get_or levels (start + col) 0
+lent start n levels col h = search (rules, places)
 
 pub returns : goal.returns
 returns c =
-    let args = c.args in
-    let take_row = c.take_row in
-    let by_other_rows = c.by_other_rows in
-    let by_own_row = c.by_own_row in
-    let settle = c.settle in (
-      whole (the_area c.args.width c.args.rows c.args.beyond c.args.cells) args.upward args.row c.requires.1.0 args.part.now args.worked.now _ _ _ (rw c.requires.0 (row_end c.args.width c.args.row c.args.rows c.requires.1.0))
-          c.requires.1.1.1.1 take_row.ensures by_other_rows.ensures (rw (← by_own_row.ensures) settle.ensures.0),
-      settle.ensures.1,
+    let area = c.args.area.now in
+    let start = c.args.row * area.width in
+    let levels = c.args.part.now in
+    let room : start + area.width ≤ length levels =
+    rw c.requires.0 (row_end area.width c.args.row area.height c.requires.1.0) in
+    let n : start + area.width - start ≡ area.width = omega arith in
+    let taken = rw n at c.copy_from_slice.ensures.after in
+    let long : length (mid_of start area.width levels) ≡ area.width = search (rules, places) in
+    let wide : length c.copy_from_slice.new.self ≡ area.width = ap length taken ∙ long in
+    let same : length c.by_other_rows.new.worked ≡ area.width = c.by_other_rows.ensures.size ∙ wide in
+    let own = rw same at c.by_own_row.ensures in
+    let stored = rw n at c.settle.ensures in
+    let size : length c.settle.new.stored ≡ area.width = ap length stored.0 ∙ c.by_own_row.auto.worked ∙ same in
+    rw n (
+      whole area c.args.upward c.args.row c.requires.1.0 levels c.copy_from_slice.new.self c.by_other_rows.new.worked _ room (omega arith)
+          (λ col h. rw taken (lent start area.width levels col h)) c.by_other_rows.ensures
+          (put_part start area.width levels c.settle.new.stored room size _ (λ col h. ap (λ (x : List ℕ). get_or x col 0) (stored.0 ∙ own))),
+      stored.1 ∙ sym (lowered_part start area.width levels c.settle.new.stored (long ∙ sym size)),
     )

@@ -9,4 +9,4 @@ returns-then-set c = (rw c.if-set.true, omega arith)
 
 pub returns-else-set : goal.returns-else-set
 unfolding step
-returns-else-set c = (rw c.if-set.false, omega arith)
+returns-else-set c = (rw (c.if-set.false, c.from.ensures), omega arith)

@@ -18,9 +18,9 @@ pub scan_rows-requires : goal.scan_rows-requires
 scan_rows-requires c =
     let args = c.args in
     let pre = c.requires in
-    let area_width = c.area_width-width in
-    let area_height = c.area_height-height in
-    let scan_cells = c.scan_cells-cells in
+    let area_width = c.area_width in
+    let area_height = c.area_height in
+    let scan_cells = c.scan_cells in
     let s = sound args.run pre.0 in
     let h = area_height.ensures.0 in
     let l = pre.1.1 in (
@@ -32,10 +32,10 @@ pub returns : goal.returns
 returns c =
     let args = c.args in
     let pre = c.requires in
-    let area_width = c.area_width-width in
-    let area_height = c.area_height-height in
-    let scan_cells = c.scan_cells-cells in
-    let beyond_of = c.beyond_of-beyond in
+    let area_width = c.area_width in
+    let area_height = c.area_height in
+    let scan_cells = c.scan_cells in
+    let beyond_of = c.beyond_of in
     let same = work_area args.run (sound args.run pre.0) args.levels.now pre.1.0 _ _ area_width.ensures.0
     area_height.ensures.0 _ _ beyond_of.ensures scan_cells.ensures in
     let scan-rows = c.scan_rows in (
