@@ -21,7 +21,7 @@ use Rattle.run.specs.declared.kinds.Bounds.{Bounds}
 use Rattle.run.specs.declared.records.Frame.{Frame}
 use Rattle.run.specs.Kinds.{on_of, off_of, is_held_at}
 use Rattle.run.specs.Records.{margin, frame_of, area_width, area_height, area_of, due, foreign, record_bad}
-use Rattle.run.specs.Continuing.{continue_refusals, Continues}
+use Rattle.run.specs.Continuing.{State, continue_refusals, Continues}
 use Rattle.run.specs.Patches.{Canvas, level_in, held_between, bounds_of}
 use Rattle.run.specs.Pictures.{frame_level}
 use Rattle.run.specs.Demand2.{finished}
@@ -43,13 +43,15 @@ module _ (r : Record) (taken : foreign r ≡ false) (fresh : r.rows ≡ 0) (leve
       (rw (eq-eqb (length levels) (area_height r * area_width r) size))
       (omega arith))
 
-  pub finish_rows : {number : ℕ} {next : Record} {done : Bool} {after : List ℕ} {lowered : ℕ}
-      → Continues r levels most_rows number ((next, done, after), lowered) → after ≡ finished r levels
-  finish_rows a =
-      let q = a.accepted (a.refusal ∙ continue_taken) in
-      let s = (sound r taken).area_high in
-      let w : min most_rows (due r - r.rows) ≡ due r = let f = fresh in omega arith in
-      ap (λ t. t.0.2) q ∙ ap₂ (λ d n. scan_rows (area_of r) d n levels) fresh w
+  module _ {number : ℕ} {after : State × ℕ} (a : Continues r levels most_rows number after) where
+    pub finish_accepted : number ≡ 0
+    finish_accepted = a.refusal ∙ continue_taken
+
+    pub finish_rows : after.0.2 ≡ finished r levels
+    finish_rows =
+        let s = (sound r taken).area_high in
+        let w : min most_rows (due r - r.rows) ≡ due r = let f = fresh in omega arith in
+        ap (λ t. t.0.2) (a.accepted finish_accepted) ∙ ap₂ (λ d n. scan_rows (area_of r) d n levels) fresh w
 
 -- the record of the way back
 pub back_record : (r : Record) (kind width height : ℕ) (cells : List ℕ) → kind ≡ cond (eqb r.kind 1) 2 1 → width ≡ area_width r

@@ -16,7 +16,7 @@ pub fn finish(run: Record, levels: &mut [u16])
     requires { (foreign run ≡ false) × ((run.rows ≡ 0) × (length levels.old ≡ area_height run * area_width run)) }
     ensures { levels.new ≡ finished run levels.old }
 {
-    continuing::continue_run(run, levels, basics::MOST_ROWS);
+    continuing::continue_run(run, levels, basics::MOST_ROWS).unwrap();
 }
 
 // The run of the other kind, on all of the area.

@@ -4,7 +4,7 @@
 
 ghost use Rattle.std.specs.Prelude.{◌≡◌, false, ◌||◌, ◌+◌, ◌*◌, ◌<◌, ◌≤◌, ltb, length, get_or, replicate};
 ghost use Rattle.basics.specs.Bounds.{any_above};
-ghost use Rattle.basics.specs.Refusals.{first};
+ghost use Rattle.basics.specs.Refusals.{first, number};
 ghost use Rattle.basics.specs.Tables.{table};
 ghost use Rattle.run.specs.Patches.{Canvas};
 ghost use Rattle.run.specs.Starting.{dilation_refusals};
@@ -14,9 +14,10 @@ ghost use Rattle.filters.specs.Filters.{frame_size};
 ghost use Rattle.maps.specs.Maps.{sizes_seen, map_refusals, DilatesByMap};
 ghost use Rattle.maps.specs.Raising.{raised, Raised, StartsByMap, Fits, above_from, Finishes};
 
+use basics::Refusal;
 use filters::Input;
-use run::Record;
 use run::records::Frame;
+use run::{Record, starting};
 
 // Whether the map has a size above the cap at a row and a column, and a foreground point stands there.
 fn is_above(input: Input, sheet: &[u8], map: &[u16], cap: usize, row: usize, col: usize) -> bool
@@ -62,8 +63,8 @@ fn any_above(input: Input, sheet: &[u8], map: &[u16], cap: usize) -> bool
     cap < usize::from(filters::levels::highest(map)) && any_seen(input, sheet, map, cap)
 }
 
-// Refusals 2 to 11, and 8 for a size above the cap, or 0.
-fn map_refusal(
+// Refusals 2 to 11, and 8 for a size above the cap.
+fn check_map(
     input: Input,
     sheet: &[u8],
     bytes: &[u8],
@@ -71,26 +72,21 @@ fn map_refusal(
     map: &[u16],
     work: &[u16],
     out: &[u8],
-) -> u32
-    ensures { result ≡ first (map_refusals input sheet.now bytes.now cap map.now
-        (record { work = work.entry.now; out = out.now })) }
+) -> Result<(), Refusal>
+    ensures { number result ≡ first
+        (map_refusals input sheet.now bytes.now cap map.now (record { work = work.now; out = out.now })) }
 {
-    let width = input.width;
-    let height = input.height;
-    let refusal = run::starting::dilation_refusal(input, sheet, bytes, cap, work);
-    if refusal != 0 {
-        return refusal;
+    starting::check_dilation(input, sheet, bytes, cap, work)?;
+    if map.len() != input.height * input.width {
+        return Err(Refusal::LevelsLength);
     }
-    if map.len() != height * width {
-        return 10;
-    }
-    if out.len() != height * sheet::row_bytes(width) {
-        return 11;
+    if out.len() != input.height * sheet::row_bytes(input.width) {
+        return Err(Refusal::OutputLength);
     }
     if any_above(input, sheet, map, cap) {
-        return 8;
+        return Err(Refusal::Size);
     }
-    0
+    Ok(())
 }
 
 // The level that a point with a size starts with, where a dilation's is 1; another level stays. No accepted map has a size above
@@ -145,7 +141,7 @@ fn start_by_map(
         (length map.now ≡ frame_size input) }
     ensures { StartsByMap input sheet.now bytes.now cap map.now result work.new }
 {
-    let run = run::starting::start_dilation(input, sheet, bytes, cap, work).run;
+    let run = starting::start_dilation(input, sheet, bytes, cap, work).unwrap();
     let most = cap as u16 + 1;
     raise_frame(work, run::records::frame_of(run), map, most);
     run
@@ -172,16 +168,13 @@ pub fn dilate_by_map(
     map: &[u16],
     work: &mut [u16],
     out: &mut [u8],
-) -> u32
+) -> Result<(), Refusal>
     ensures { DilatesByMap input sheet.now bytes.now cap map.now
-        (record { work = work.entry.now; out = out.old }) result
-        (record { work = work.exit.now; out = out.new }) }
+        (record { work = work.old; out = out.old }) (number result)
+        (record { work = work.new; out = out.new }) }
 {
-    let refusal = map_refusal(input, sheet, bytes, cap, map, work, out);
-    if refusal != 0 {
-        return refusal;
-    }
+    check_map(input, sheet, bytes, cap, map, work, out)?;
     let run = start_by_map(input, sheet, bytes, cap, map, work);
     finish_sheet(run, work, out);
-    0
+    Ok(())
 }
