@@ -17,7 +17,8 @@ use Rattle.row.specs.RowRule.{none}
 use Rattle.scan.specs.Scan.{scan_rows}
 use Rattle.scan.proofs.ScanLaws.{rows_add, rows_lower, rows_positive}
 use Rattle.run.specs.declared.Record.{Record}
-use Rattle.run.specs.Kinds.{eroding, cropping, by_kind, erosion_kind, background_beyond, size_limit, cropped_level, is_held_at}
+use Rattle.run.specs.declared.kinds.Kind.TheVariants.{Eroding, Cropping}
+use Rattle.run.specs.Kinds.{by_kind, erosion_kind, background_beyond, size_limit, cropped_level, is_held_at}
 use Rattle.run.specs.Records.{area_of, due}
 use Rattle.run.specs.Continuing.{State, with_rows}
 use Rattle.run.specs.Pictures.{frame_level, thresholded}
@@ -74,8 +75,8 @@ module _ (r : Record) (n lower level : ℕ) (l : lower ≤ level) where
       above a b m t = let f = ltb-true n a t in lt-ltb n b (omega arith)
 
       go : (t : Bool)
-          → by_kind (cond t eroding cropping) (ltb n lower) (leb 1 lower && leb lower (suc n)) (ltb n (cropped_level r.cap lower)) ≡ true
-          → by_kind (cond t eroding cropping) (ltb n level) (leb 1 level && leb level (suc n)) (ltb n (cropped_level r.cap level)) ≡ true
+          → by_kind (cond t Eroding Cropping) (ltb n lower) (leb 1 lower && leb lower (suc n)) (ltb n (cropped_level r.cap lower)) ≡ true
+          → by_kind (cond t Eroding Cropping) (ltb n level) (leb 1 level && leb level (suc n)) (ltb n (cropped_level r.cap level)) ≡ true
       go true = above lower level l
       go false = above _ _ (cropped_rises r.cap lower level small l)
 

@@ -25,7 +25,7 @@ use Rattle.sheet.specs.Sheets.{pixel, foreground}
 use Rattle.sheet.proofs.PixelLaws.{length-packed}
 use Rattle.sheet.proofs.SamePixelsLaws.{same_refusals}
 use Rattle.run.proofs.Starts.{judged}
-use Rattle.filters.specs.declared.Input.{Input}
+use Rattle.run.specs.declared.Input.{Input}
 use Rattle.filters.specs.Filters.{Buffers, Cleared, IsSheet, foreground_of, element_of, input_refusals, is_canvas_wrong}
 use Rattle.filters.specs.Filters.{is_work_wrong, is_out_wrong, frame_size, closing_size, sheet_size}
 use Rattle.filters.specs.StarredFilters.{Fits, left, Gives}

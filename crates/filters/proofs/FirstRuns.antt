@@ -18,7 +18,7 @@ use Rattle.run.specs.Series.{erosion, dilation}
 use Rattle.run.specs.Demand2.{finished}
 use Rattle.run.proofs.Started.{IsStart, is_start}
 use Rattle.run.proofs.Starts.{judged, erosion_fits, dilation_canvas}
-use Rattle.filters.specs.declared.Input.{Input}
+use Rattle.run.specs.declared.Input.{Input}
 use Rattle.filters.specs.declared.judging.Plan.{Plan}
 use Rattle.filters.specs.Filters.{foreground_of, element_of}
 use Rattle.filters.specs.Plans.{cap_of, start_refusals, first_record, first_start, first_levels, filtered, last_size}

@@ -7,7 +7,7 @@ use lib.ListN.{length, replicate}
 use Rattle.basics.specs.Refusals.{first}
 use Rattle.basics.proofs.RefusalLaws.{accepts}
 use Rattle.run.specs.declared.Record.{Record}
-use Rattle.filters.specs.declared.Input.{Input}
+use Rattle.run.specs.declared.Input.{Input}
 use Rattle.filters.specs.declared.judging.Plan.{Plan}
 use Rattle.filters.specs.Filters.{Buffers}
 use Rattle.filters.specs.Plans.{plan_refusals, lengths_of, first_levels, Bounded}

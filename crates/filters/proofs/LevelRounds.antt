@@ -16,7 +16,7 @@ use Rattle.grid.specs.Points.{Point, at}
 use Rattle.grid.specs.Sets.{PointSet}
 use Rattle.sheet.specs.Means.{LevelsMean}
 use Rattle.run.specs.declared.Record.{Record}
-use Rattle.filters.specs.declared.Input.{Input}
+use Rattle.run.specs.declared.Input.{Input}
 use Rattle.filters.specs.declared.judging.Plan.{Plan}
 use Rattle.filters.specs.Filters.{foreground_of, element_of}
 use Rattle.filters.specs.Back.{is_found, stored, size_at, Ready}

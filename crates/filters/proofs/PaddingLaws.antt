@@ -14,7 +14,7 @@ use Rattle.grid.proofs.LevelLaws.{last_unique, first_unique}
 use Rattle.grid.proofs.SameSets.{itself, opened_same, closed_same, answer_same}
 use Rattle.sheet.specs.SamePixels.{SamePixels}
 use Rattle.sheet.proofs.SamePixelsLaws.{same_set}
-use Rattle.filters.specs.declared.Input.{Input}
+use Rattle.run.specs.declared.Input.{Input}
 use Rattle.filters.specs.Filters.{Buffers, Cleared, IsSheet, AreLevels, foreground_of, element_of}
 use Rattle.filters.specs.Filters.{open_refusals, close_refusals, opening_refusals, closing_refusals}
 use Rattle.filters.specs.PaddingIgnored.{IgnoresPadding, PaddingIgnored}

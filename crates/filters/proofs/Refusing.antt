@@ -20,7 +20,7 @@ use Rattle.sheet.specs.Sheets.{row_bytes}
 use Rattle.run.specs.Records.{margin_of, canvas_side}
 use Rattle.run.specs.Starting.{canvas_refusals}
 use Rattle.run.proofs.Starts.{judged, canvas_taken}
-use Rattle.filters.specs.declared.Input.{Input}
+use Rattle.run.specs.declared.Input.{Input}
 use Rattle.filters.specs.declared.judging.Plan.{Plan}
 use Rattle.filters.specs.declared.judging.Lengths.{Lengths}
 use Rattle.filters.specs.Filters.{Buffers, input_refusals, is_canvas_wrong, is_out_wrong, frame_size, closing_size}

@@ -15,7 +15,7 @@ use Rattle.grid.specs.Points.{at}
 use Rattle.grid.specs.Sets.{PointSet}
 use Rattle.sheet.specs.Sheets.{row_bytes, packed}
 use Rattle.run.specs.declared.Record.{Record}
-use Rattle.filters.specs.declared.Input.{Input}
+use Rattle.run.specs.declared.Input.{Input}
 use Rattle.filters.specs.declared.judging.Plan.{Plan}
 use Rattle.filters.specs.Filters.{Buffers, Cleared, IsSheet, foreground_of, element_of}
 use Rattle.filters.specs.Plans.{limit_of, entries_of, start_refusals, plan_refusals, lengths_of, first_record, first_levels}

@@ -18,7 +18,7 @@ use Rattle.grid.specs.Starred.{IsPixel}
 use Rattle.grid.proofs.LevelLaws.{last_unique, first_unique}
 use Rattle.sheet.specs.Sheets.{pixel, packed}
 use Rattle.sheet.proofs.PixelLaws.{pixel_binary, pixel-packed, packed_same}
-use Rattle.filters.specs.declared.Input.{Input}
+use Rattle.run.specs.declared.Input.{Input}
 use Rattle.filters.specs.Filters.{Buffers, Cleared, IsSheet, AreLevels, Opens, Closes, OpeningLevels, ClosingLevels}
 use Rattle.filters.specs.StarredFilters.{Fits, left, Gives}
 

@@ -32,7 +32,8 @@ use Rattle.scan.proofs.LookLaws.{spot, look_inside, look_beyond}
 use Rattle.scan.proofs.Erosion.{erosion_scan, erosion_small}
 use Rattle.scan.proofs.Dilation.{dilation_scan}
 use Rattle.run.specs.declared.Record.{Record}
-use Rattle.run.specs.Kinds.{eroding, dilating, is_held_at}
+use Rattle.run.specs.declared.kinds.Kind.TheVariants.{Eroding, Dilating}
+use Rattle.run.specs.Kinds.{is_held_at}
 use Rattle.run.specs.Records.{margin, area_width, area_height, area_of, due, foreign}
 use Rattle.run.specs.Starting.{start_record, start_levels}
 use Rattle.run.specs.Pictures.{frame_level}
@@ -66,9 +67,9 @@ module _ (width height : ℕ) (sheet : List ℕ) (side : ℕ) (bytes : List ℕ)
   abbrev K : PointSet
   K = element_set side bytes
 
-  module _ (e : foreign (start_record eroding width height 0 side bytes) ≡ false) where
+  module _ (e : foreign (start_record Eroding width height 0 side bytes) ≡ false) where
     abbrev r : Record
-    r = start_record eroding width height 0 side bytes
+    r = start_record Eroding width height 0 side bytes
 
     abbrev first : List ℕ
     first = finished r (start_levels r sheet)
@@ -150,9 +151,9 @@ module _ (width height : ℕ) (sheet : List ℕ) (side : ℕ) (bytes : List ℕ)
             omega arith
         go (no out) = let v = look_beyond (area_of r) first a out in let u = l in absurd (omega arith)
 
-  module _ (R : ℕ) (e : foreign (start_record dilating width height R side bytes) ≡ false) where
+  module _ (R : ℕ) (e : foreign (start_record Dilating width height R side bytes) ≡ false) where
     abbrev r₂ : Record
-    r₂ = start_record dilating width height R side bytes
+    r₂ = start_record Dilating width height R side bytes
 
     abbrev first₂ : List ℕ
     first₂ = finished r₂ (start_levels r₂ sheet)

@@ -1,7 +1,7 @@
 -- Calls chained: the sheet that opening by n answers is passed on to opening by m, with the same frame and element; closings
 -- likewise. One call by the larger size gives the same sheet, byte for byte; so a chain is one call by its largest size.
 use Rattle.std.specs.Prelude.{ℕ, max, ◌≡◌, List, [], ◌∷◌}
-use Rattle.filters.specs.declared.Input.{Input}
+use Rattle.run.specs.declared.Input.{Input}
 use Rattle.filters.specs.Filters.{Buffers, frame_size, closing_size, Opens, Closes}
 use Rattle.filters.specs.StarredFilters.{Gives}
 

@@ -10,7 +10,7 @@ use Rattle.element.specs.Elements.{element_set, element_refusals}
 use Rattle.sheet.specs.Sheets.{row_bytes, pixel, packed, foreground, sheet_refusals}
 use Rattle.sheet.specs.Means.{LevelsMean, SheetMeans}
 use Rattle.run.specs.Starting.{canvas_wrong, canvas_size}
-use Rattle.filters.specs.declared.Input.{Input}
+use Rattle.run.specs.declared.Input.{Input}
 
 -- two work buffers and the output, lent
 pub record Buffers : Type 0 where

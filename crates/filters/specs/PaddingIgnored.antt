@@ -1,7 +1,7 @@
 -- Padding bits change nothing: two sheets of one length with the same pixels get the same answer from each of the four calls.
 use Rattle.std.specs.Prelude.{ℕ, ◌≡◌, List, length}
 use Rattle.sheet.specs.SamePixels.{SamePixels}
-use Rattle.filters.specs.declared.Input.{Input}
+use Rattle.run.specs.declared.Input.{Input}
 use Rattle.filters.specs.Filters.{Buffers, Opens, Closes, OpeningLevels, ClosingLevels}
 
 -- what is allowed for the one sheet is allowed for the other, and no two outcomes differ

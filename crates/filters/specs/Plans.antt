@@ -7,10 +7,10 @@ use Rattle.grid.specs.Sets.{PointSet, opened, closed}
 use Rattle.grid.specs.Levels.{IsOpeningLevel, IsClosingLevel}
 use Rattle.sheet.specs.Sheets.{row_bytes}
 use Rattle.run.specs.declared.Record.{Record}
-use Rattle.run.specs.Kinds.{eroding, dilating}
+use Rattle.run.specs.declared.kinds.Kind.TheVariants.{Eroding, Dilating}
 use Rattle.run.specs.Starting.{start_record, start_levels, canvas_refusals}
 use Rattle.run.specs.Demand2.{finished}
-use Rattle.filters.specs.declared.Input.{Input}
+use Rattle.run.specs.declared.Input.{Input}
 use Rattle.filters.specs.declared.judging.Plan.{Plan}
 use Rattle.filters.specs.declared.judging.Lengths.{Lengths}
 use Rattle.filters.specs.Filters.{Buffers, Cleared, IsSheet, AreLevels, foreground_of, element_of, input_refusals}
@@ -48,7 +48,7 @@ lengths_of lent = record { first = length lent.first; second = length lent.secon
 -- the first run: an erosion for an opening, a dilation for a closing; its record, how it starts, and its levels in the end
 abbrev pub first_record : Input → List ℕ → Plan → Record
 first_record input bytes plan =
-    start_record (cond plan.closing dilating eroding) input.width input.height (cap_of plan) input.side bytes
+    start_record (cond plan.closing Dilating Eroding) input.width input.height (cap_of plan) input.side bytes
 
 abbrev pub first_start : Input → List ℕ → List ℕ → Plan → List ℕ
 first_start input sheet bytes plan = start_levels (first_record input bytes plan) sheet

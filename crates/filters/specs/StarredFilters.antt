@@ -4,7 +4,7 @@ use Rattle.std.specs.Prelude.{ℕ, ◌≡◌, List, [], ◌∷◌, length, repli
 use Rattle.grid.specs.Starred.{Question, erosion_levels, opening_levels, dilation_levels, closing_levels, eroded_by, opened_by, Case}
 use Rattle.grid.specs.Starred.{cropped_levels, AllHold, starred_cases as cases, PairReflects, ClippingMisses}
 use Rattle.run.specs.StarredRuns.{sheet_of, bytes_of, levels_of, picture_of, RunsGive, AfterOneRow}
-use Rattle.filters.specs.declared.Input.{Input}
+use Rattle.run.specs.declared.Input.{Input}
 use Rattle.filters.specs.Filters.{Buffers, frame_size, closing_size, Opens, OpeningLevels, ClosingLevels}
 
 -- buffers of the sizes asked for, whatever they hold

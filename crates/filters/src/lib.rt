@@ -8,13 +8,7 @@ pub mod levels;
 
 ghost use Rattle.filters.specs.Filters.{Opens, Closes, OpeningLevels, ClosingLevels};
 
-// The numbers of an input: the sides of the frame, and the element's side.
-#[derive(Clone, Copy)]
-pub struct Input {
-    pub width: usize,
-    pub height: usize,
-    pub side: usize,
-}
+pub use run::Input;
 
 // Public: fills `out` with the sheet opened by a size. Refusals 2 to 8, 10, 11.
 pub fn open(

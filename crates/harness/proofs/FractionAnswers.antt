@@ -9,7 +9,7 @@ use lib.Ieee.{Float}
 use lib.ListN.{length, set}
 use borrow.Author.Tests.{eq-eqb, ne_eqb}
 use Rattle.basics.specs.Refusals.{Refusal, first}
-use Rattle.filters.specs.declared.Input.{Input}
+use Rattle.run.specs.declared.Input.{Input}
 use Rattle.filters.specs.Filters.{Buffers, input_refusals, is_work_wrong, frame_size}
 use Rattle.spectrum.specs.declared.Summary.{Summary}
 use Rattle.spectrum.specs.Spectrum.{is_blank, table_size, spectrum_refusals, GivesSpectrum}

@@ -5,7 +5,7 @@ use mathlib.Core.List.{List}
 use lib.Ieee.{Float}
 use Rattle.basics.proofs.RefusalLaws.{rule_unique, answers_unique}
 use Rattle.element.specs.Reflect.{Reflects}
-use Rattle.filters.specs.declared.Input.{Input}
+use Rattle.run.specs.declared.Input.{Input}
 use Rattle.filters.specs.Filters.{Buffers}
 use Rattle.spectrum.specs.Spectrum.{summary_of}
 use Rattle.spectrum.proofs.Promises.{right_one}

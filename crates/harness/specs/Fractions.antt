@@ -1,7 +1,7 @@
 -- What the spectrum answers at the boundary: as the library's call, with the summary's two fractions in a slice of doubles.
 use Rattle.std.specs.Prelude.{ℕ, ◌≡◌, List, [], ◌∷◌, Float}
 use Rattle.basics.specs.Refusals.{Refusal, Answers}
-use Rattle.filters.specs.declared.Input.{Input}
+use Rattle.run.specs.declared.Input.{Input}
 use Rattle.filters.specs.Filters.{Buffers, Cleared, foreground_of, element_of}
 use Rattle.spectrum.specs.declared.Summary.{Summary}
 use Rattle.spectrum.specs.Spectrum.{IsSpectrum, summary_of, spectrum_refusals}

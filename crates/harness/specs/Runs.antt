@@ -3,7 +3,7 @@
 use Rattle.std.specs.Prelude.{ℕ, ◌≡◌, Bool, cond, List, [], ◌∷◌, ◌++◌}
 use Rattle.basics.specs.Refusals.{Refusal, Answers}
 use Rattle.run.specs.declared.Record.{Record}
-use Rattle.run.specs.Kinds.{eroding, dilating, cropping}
+use Rattle.run.specs.declared.kinds.Kind.TheVariants.{Eroding, Dilating, Cropping}
 use Rattle.run.specs.Starting.{start_record, start_levels, erosion_refusals, dilation_refusals}
 use Rattle.run.specs.Continuing.{State, is_done, continue_refusals, continued, lowered_by}
 use Rattle.run.specs.Pictures.{collected, collect_refusals, thresholded, threshold_refusals}
@@ -18,16 +18,16 @@ StartsWords refusals run sheet levels words =
 
 abbrev pub StartsErosionWords : ℕ → ℕ → List ℕ → ℕ → List ℕ → List ℕ → List ℕ → ℕ → List ℕ × List ℕ → Type 0
 StartsErosionWords width height sheet side cells levels =
-    StartsWords (erosion_refusals width height sheet side cells levels) (start_record eroding width height 0 side cells) sheet levels
+    StartsWords (erosion_refusals width height sheet side cells levels) (start_record Eroding width height 0 side cells) sheet levels
 
 abbrev pub StartsDilationWords : ℕ → ℕ → List ℕ → ℕ → List ℕ → ℕ → List ℕ → List ℕ → ℕ → List ℕ × List ℕ → Type 0
 StartsDilationWords width height sheet side cells cap levels =
-    StartsWords (dilation_refusals width height sheet side cells cap levels) (start_record dilating width height cap side cells) sheet
+    StartsWords (dilation_refusals width height sheet side cells cap levels) (start_record Dilating width height cap side cells) sheet
     levels
 
 abbrev pub StartsCroppedWords : ℕ → ℕ → List ℕ → ℕ → List ℕ → ℕ → List ℕ → List ℕ → ℕ → List ℕ × List ℕ → Type 0
 StartsCroppedWords width height sheet side cells cap levels =
-    StartsWords (dilation_refusals width height sheet side cells cap levels) (start_record cropping width height cap side cells) sheet
+    StartsWords (dilation_refusals width height sheet side cells cap levels) (start_record Cropping width height cap side cells) sheet
     levels
 
 -- continuing: the record, the levels, and two words: whether all rows are done, as 1 or 0, and how many points were lowered

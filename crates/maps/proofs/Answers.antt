@@ -37,7 +37,7 @@ use Rattle.run.proofs.RecordLaws.{sound, bad_rows}
 use Rattle.run.proofs.Started.{IsStart, is_start}
 use Rattle.run.proofs.StartLevels.{framed_on, place_is}
 use Rattle.run.proofs.Starts.{Judged, judged, dilation_taken, canvas_taken, canvas_area}
-use Rattle.filters.specs.declared.Input.{Input}
+use Rattle.run.specs.declared.Input.{Input}
 use Rattle.filters.specs.Filters.{IsSheet, foreground_of, element_of}
 use Rattle.filters.proofs.SheetAnswers.{tested_sheet}
 use Rattle.maps.specs.Maps.{Buffers, size_in, size_of, map_refusals, DilatesByMap}

@@ -38,7 +38,7 @@ use Rattle.run.specs.Pictures.{frame_level, thresholded}
 use Rattle.run.specs.Series.{dilation}
 use Rattle.run.specs.Demand2.{finished}
 use Rattle.run.proofs.Demand2.{thresholded_at, every_picture}
-use Rattle.filters.specs.declared.Input.{Input}
+use Rattle.run.specs.declared.Input.{Input}
 use Rattle.filters.specs.Filters.{IsSheet, foreground_of, element_of, frame_size}
 use Rattle.filters.proofs.PaddingLaws.{sheet_carried}
 use Rattle.filters.proofs.Refusing.{answers_carried}

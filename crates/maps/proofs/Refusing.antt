@@ -14,7 +14,7 @@ use Rattle.basics.specs.Refusals.{Refusal, first}
 use Rattle.basics.proofs.RefusalLaws.{judged_first, judged_next, first_both, passed}
 use Rattle.sheet.specs.Sheets.{row_bytes}
 use Rattle.run.specs.Starting.{dilation_refusals}
-use Rattle.filters.specs.declared.Input.{Input}
+use Rattle.run.specs.declared.Input.{Input}
 use Rattle.filters.specs.Filters.{frame_size, sheet_size}
 use Rattle.maps.specs.Maps.{Buffers, sizes_seen, map_refusals}
 

@@ -17,7 +17,7 @@ use Rattle.basics.proofs.TableLaws.{length-raster, get_or-raster, get_or-table}
 use Rattle.basics.specs.Tables.{raster}
 use Rattle.grid.specs.Points.{Point}
 use Rattle.sheet.specs.Sheets.{pixel}
-use Rattle.filters.specs.declared.Input.{Input}
+use Rattle.run.specs.declared.Input.{Input}
 use Rattle.filters.specs.Filters.{frame_size, foreground_of}
 use Rattle.maps.specs.Maps.{size_in, size_of, sizes_seen}
 use Rattle.maps.specs.Raising.{above_from}

@@ -7,7 +7,7 @@ use Rattle.grid.specs.Points.{Point}
 use Rattle.grid.specs.Sizes.{dilated_by_sizes, sizes_of}
 use Rattle.sheet.specs.Sheets.{pixel}
 use Rattle.run.specs.Starting.{dilation_refusals}
-use Rattle.filters.specs.declared.Input.{Input}
+use Rattle.run.specs.declared.Input.{Input}
 use Rattle.filters.specs.Filters.{IsSheet, foreground_of, element_of, frame_size, sheet_size}
 
 -- the size at a row and a column, and so at a point of the frame

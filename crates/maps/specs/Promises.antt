@@ -9,7 +9,7 @@ use Rattle.run.specs.declared.Record.{Record}
 use Rattle.run.specs.Starting.{StartsDilation}
 use Rattle.run.specs.Pictures.{thresholded}
 use Rattle.run.specs.Demand2.{finished}
-use Rattle.filters.specs.declared.Input.{Input}
+use Rattle.run.specs.declared.Input.{Input}
 use Rattle.filters.specs.Filters.{frame_size, closing_size, sheet_size}
 use Rattle.maps.specs.Maps.{Buffers, size_in, DilatesByMap}
 

@@ -4,10 +4,11 @@ use Rattle.basics.specs.Bounds.{any_above}
 use Rattle.basics.specs.Limits.{longest_side}
 use Rattle.sheet.specs.Sheets.{row_bytes}
 use Rattle.run.specs.declared.Record.{Record}
-use Rattle.run.specs.Kinds.{dilating, size_limit}
+use Rattle.run.specs.declared.kinds.Kind.TheVariants.{Dilating}
+use Rattle.run.specs.Kinds.{size_limit}
 use Rattle.run.specs.Records.{canvas_side, margin, area_width, area_height, foreign}
 use Rattle.run.specs.Starting.{framed, start_record, start_levels}
-use Rattle.filters.specs.declared.Input.{Input}
+use Rattle.run.specs.declared.Input.{Input}
 use Rattle.filters.specs.Filters.{frame_size, sheet_size}
 use Rattle.maps.specs.Maps.{size_in}
 
@@ -24,7 +25,7 @@ pub record Raised (width margin rows most : ℕ) (map before after : List ℕ) :
 
 -- the record of the dilation, and the levels that it starts with by a map
 abbrev pub map_record : Input → List ℕ → ℕ → Record
-map_record input bytes cap = start_record dilating input.width input.height cap input.side bytes
+map_record input bytes cap = start_record Dilating input.width input.height cap input.side bytes
 
 pub record StartsByMap (input : Input) (sheet bytes : List ℕ) (cap : ℕ) (map : List ℕ) (r : Record) (levels : List ℕ) : Type 0 where
   pub run : r ≡ map_record input bytes cap

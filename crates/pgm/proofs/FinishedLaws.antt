@@ -15,7 +15,9 @@ use Rattle.basics.proofs.RefusalLaws.{passed, refuses, accepts, rule_unique}
 use Rattle.text.specs.Writing.{begun}
 use Rattle.row.specs.RowRule.{none}
 use Rattle.run.specs.declared.Record.{Record}
-use Rattle.run.specs.Kinds.{Kind, eroding, dilating, cropping, kind_of, by_kind}
+use Rattle.run.specs.declared.kinds.Kind.{Kind}
+use Rattle.run.specs.declared.kinds.Kind.TheVariants.{Eroding, Dilating, Cropping}
+use Rattle.run.specs.Kinds.{kind_of, by_kind}
 use Rattle.run.specs.Records.{due, foreign, record_bad}
 use Rattle.run.specs.Continuing.{is_done}
 use Rattle.run.proofs.RecordLaws.{Sound, sound, not_bad}
@@ -116,9 +118,9 @@ pub maximum_small : (r : Record) → foreign r ≡ false → maximum r < level_e
 maximum_small r a = go (kind_of r) (sound r a)
   where
     go : (kind : Kind) → Sound r → by_kind kind (max r.width r.height) (r.cap + 1) none < level_end
-    go eroding s = let w = s.wide in let h = s.high in omega arith
-    go dilating s = let c = s.cap_small in omega arith
-    go cropping s = omega arith
+    go Eroding s = let w = s.wide in let h = s.high in omega arith
+    go Dilating s = let c = s.cap_small in omega arith
+    go Cropping s = omega arith
 
 module _ (r : Record) (levels : List ℕ) (a : record_bad r ≡ false) (size : length levels ≡ r.height * r.width) where
   pub sound_picture : (most all : ℕ) → most ≡ maximum r → all ≡ due r → Picture r.width r.height most r.rows all levels

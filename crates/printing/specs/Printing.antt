@@ -3,7 +3,7 @@ use Rattle.std.specs.Prelude.{ℕ, ◌*◌, cond, List, [], ◌∷◌, ◌++◌,
 use Rattle.basics.specs.Refusals.{Refusal, first}
 use Rattle.decimal.specs.Numbers.{digits}
 use Rattle.run.specs.declared.Record.{Record}
-use Rattle.run.specs.Kinds.{eroding}
+use Rattle.run.specs.declared.kinds.Kind.TheVariants.{Eroding}
 use Rattle.run.specs.Records.{due}
 use Rattle.run.specs.Starting.{start_record, start_levels}
 use Rattle.run.specs.Continuing.{with_rows}
@@ -33,7 +33,7 @@ cross = 0 ∷ 1 ∷ 0 ∷ 1 ∷ 1 ∷ 1 ∷ 0 ∷ 1 ∷ 0 ∷ []
 
 -- the run of a sheet, and the picture of its finished levels
 abbrev pub cross_run : ℕ → ℕ → Record
-cross_run width height = start_record eroding width height 0 3 cross
+cross_run width height = start_record Eroding width height 0 3 cross
 
 abbrev pub cross_levels : ℕ → ℕ → List ℕ → List ℕ
 cross_levels width height sheet =

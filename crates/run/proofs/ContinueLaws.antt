@@ -46,12 +46,6 @@ module _ (r : Record) (levels : List ℕ) (allowance : ℕ) where
       go false false c p q s e = absurd (omega arith)
       go true b c p q s e = absurd (omega arith)
 
-  pub continue_refuses : (number : ℕ) (answer : Continued)
-      → answer ≡ record { refusal = number; run = empty_record; done = false; lowered = 0 } → number ≢ 0
-      → number ≡ first (continue_refusals r levels allowance)
-      → Continues r levels allowance answer.refusal ((answer.run, answer.done, levels), answer.lowered)
-  continue_refuses number answer q n e = rw q (refuses number n e)
-
   pub continue_accepts : first (continue_refusals r levels allowance) ≡ 0 → (next : Record) (after : List ℕ) (count all lowered : ℕ)
       → count ≡ worked r allowance → all ≡ due r → next ≡ with_rows r (r.rows + count)
       → after ≡ scan_rows (area_of r) r.rows count levels → lowered ≡ rows_lowered (area_of r) r.rows count levels

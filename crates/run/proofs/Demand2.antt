@@ -39,7 +39,8 @@ use Rattle.scan.proofs.ScanLaws.{rows_positive}
 use Rattle.scan.proofs.Erosion.{erosion_at}
 use Rattle.scan.proofs.Dilation.{dilation_frame}
 use Rattle.run.specs.declared.Record.{Record}
-use Rattle.run.specs.Kinds.{eroding, dilating, cropping, size_limit, cropped_level, collected_level, is_held_at}
+use Rattle.run.specs.declared.kinds.Kind.TheVariants.{Eroding, Dilating, Cropping}
+use Rattle.run.specs.Kinds.{size_limit, cropped_level, collected_level, is_held_at}
 use Rattle.run.specs.Records.{margin, area_width, area_of, due, foreign}
 use Rattle.run.specs.Starting.{start_record, start_levels, begun}
 use Rattle.run.specs.Pictures.{frame_level, collected, thresholded}
@@ -134,9 +135,9 @@ module _ (width height : ℕ) (sheet : List ℕ) (side : ℕ) (bytes : List ℕ)
   odd = let b = side_bounds side given.side_is in omega arith
 
   -- a plain erosion
-  module _ (s : Sound (start_record eroding width height 0 side bytes)) where
+  module _ (s : Sound (start_record Eroding width height 0 side bytes)) where
     abbrev r : Record
-    r = start_record eroding width height 0 side bytes
+    r = start_record Eroding width height 0 side bytes
 
     abbrev start : List ℕ
     start = start_levels r sheet
@@ -192,9 +193,9 @@ module _ (width height : ℕ) (sheet : List ℕ) (side : ℕ) (bytes : List ℕ)
         (erosion_iff A K (at (pos row) (pos col)) (accepted_origin side bytes given) (erosion_level row col a b) n))
 
   -- a dilation
-  module _ (R : ℕ) (s : Sound (start_record dilating width height R side bytes)) where
+  module _ (R : ℕ) (s : Sound (start_record Dilating width height R side bytes)) where
     abbrev r₂ : Record
-    r₂ = start_record dilating width height R side bytes
+    r₂ = start_record Dilating width height R side bytes
 
     abbrev start₂ : List ℕ
     start₂ = start_levels r₂ sheet
@@ -231,9 +232,9 @@ module _ (width height : ℕ) (sheet : List ℕ) (side : ℕ) (bytes : List ℕ)
         ((λ h. c.0 (i.0 h)), (λ t. i.1 (c.1 t))))
 
   -- the erosion of a crop: the dilation of its background
-  module _ (R : ℕ) (s : Sound (start_record cropping width height R side bytes)) where
+  module _ (R : ℕ) (s : Sound (start_record Cropping width height R side bytes)) where
     abbrev r₃ : Record
-    r₃ = start_record cropping width height R side bytes
+    r₃ = start_record Cropping width height R side bytes
 
     abbrev start₃ : List ℕ
     start₃ = start_levels r₃ sheet

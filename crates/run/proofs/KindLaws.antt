@@ -5,7 +5,8 @@ use mathlib.Core.Logic.{◌≢◌}
 use lib.Dec.{eqb}
 use borrow.Author.Tests.{eq-eqb, ne_eqb}
 use Rattle.run.specs.declared.Record.{Record}
-use Rattle.run.specs.Kinds.{eroding, cropping, erosion_kind, background_beyond, kind_of, by_kind}
+use Rattle.run.specs.declared.kinds.Kind.TheVariants.{Eroding, Cropping}
+use Rattle.run.specs.Kinds.{erosion_kind, background_beyond, kind_of, by_kind}
 
 module _ {A : Type 0} (r : Record) (a b c : A) where
   pub of_dilation : r.kind ≢ erosion_kind → b ≡ by_kind (kind_of r) a b c
@@ -22,6 +23,6 @@ module _ {A : Type 0} (r : Record) (a b c : A) where
 pub of_either : {A : Type 0} (r : Record) (a b : A) → r.kind ≡ erosion_kind → a ≡ by_kind (kind_of r) a b a
 of_either r a b k = rw (eq-eqb r.kind erosion_kind k) (go (eqb r.edge background_beyond))
   where
-    go : (t : Bool) → a ≡ by_kind (cond t eroding cropping) a b a
+    go : (t : Bool) → a ≡ by_kind (cond t Eroding Cropping) a b a
     go true = refl
     go false = refl

@@ -7,6 +7,7 @@ use mathlib.Core.Path.{◌≡◌, refl, sym, ◌∙◌}
 use mathlib.Core.Bool.{Bool, true, false, cond, ◌&&◌, ◌||◌}
 use mathlib.Core.Logic.{◌≢◌, ◌↔◌}
 use lib.Dec.{eqb, leb, ltb}
+use mir.Val.{bool_byte}
 use borrow.Author.Tests.{lt-ltb, le-ltb, le-leb, lt-leb, leb-true, leb-false, eq-eqb, ne_eqb}
 use Rattle.basics.proofs.BoundLaws.{both}
 use Rattle.row.specs.RowRule.{none}
@@ -59,6 +60,11 @@ cropped_above R n level small l = go (leb level (suc R)) refl
 pub read_same : (other level : ℕ) → read_as (record { limit = none; less = 0; other = other }) level ≡ level
 unfolding read_as
 read_same other level = sub-zero level
+
+-- a test as a byte
+pub held_byte : (t : Bool) → bool_byte t ≡ cond t 1 0
+held_byte true = refl
+held_byte false = refl
 
 module _ (low high level : ℕ) where
   pub held_low : level ≤ low → 0 ≡ held_between low high level

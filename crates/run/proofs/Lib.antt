@@ -1,5 +1,6 @@
 -- laws of buffers and levels
 pub mod PatchLaws
+pub mod PartLaws
 pub mod LevelLaws
 pub mod PackLaws
 -- records

@@ -18,13 +18,17 @@ use Rattle.basics.proofs.RefusalLaws.{numbered, judged_first, judged_next, passe
 use Rattle.sheet.specs.Sheets.{row_bytes, packed}
 use Rattle.row.specs.RowRule.{none}
 use Rattle.run.specs.declared.Record.{Record}
+use Rattle.run.specs.declared.kinds.Bounds.{Bounds}
 use Rattle.run.specs.declared.kinds.Reading.{Reading}
-use Rattle.run.specs.Kinds.{Kind, eroding, dilating, cropping, kind_of, by_kind, size_limit, cropped_level, collected_level, is_held_at}
-use Rattle.run.specs.Records.{margin, record_bad}
+use Rattle.run.specs.declared.records.Frame.{Frame}
+use Rattle.run.specs.declared.kinds.Kind.{Kind}
+use Rattle.run.specs.declared.kinds.Kind.TheVariants.{Eroding, Dilating, Cropping}
+use Rattle.run.specs.Kinds.{kind_of, by_kind, size_limit, cropped_level, collected_level, is_held_at}
+use Rattle.run.specs.Records.{margin, record_bad, frame_of}
 use Rattle.run.specs.Continuing.{levels_wrong, is_done}
 use Rattle.run.specs.Pictures.{collected, Collects, thresholded, Thresholds}
 use Rattle.run.specs.Provisional.{view_refusals, provisional_refusals, ShowsProvisional}
-use Rattle.run.specs.Patches.{Canvas, level_in, read_as, held_between, reading_of, low_of, high_of}
+use Rattle.run.specs.Patches.{Canvas, level_in, read_as, held_between, reading_of, low_of, high_of, bounds_of}
 use Rattle.run.proofs.LevelLaws.{cropped_above}
 use Rattle.run.proofs.RecordLaws.{Sound, sound, not_bad}
 
@@ -34,18 +38,17 @@ sound_record r a = sound r (not_bad r a).0
 
 module _ {r : Record} (s : Sound r) where
   -- its levels cover its area
-  pub area_canvas : (levels : List ℕ) → levels_wrong r levels ≡ false → (m : ℕ) → m ≡ margin r
-      → Canvas r.width r.height m levels
-  area_canvas levels e m q = rw q (record { wide = s.area_wide; high = s.area_high; room = eqb-true _ _ (not-false _ e) })
+  pub area_canvas : (levels : List ℕ) → levels_wrong r levels ≡ false → Canvas r.width r.height (margin r) levels
+  area_canvas levels e = record { wide = s.area_wide; high = s.area_high; room = eqb-true _ _ (not-false _ e) }
 
   -- its sizes are small
   pub size_small : (n : ℕ) → n ≤ size_limit r → n ≤ 4096
   size_small n l = go (kind_of r) l
     where
       go : (kind : Kind) → n ≤ by_kind kind 4096 r.cap r.cap → n ≤ 4096
-      go eroding l = l
-      go dilating l = let k = s.cap_small in omega arith
-      go cropping l = let k = s.cap_small in omega arith
+      go Eroding l = l
+      go Dilating l = let k = s.cap_small in omega arith
+      go Cropping l = let k = s.cap_small in omega arith
 
   -- a level as it is read is the level collected
   collected_level_lem : (level : ℕ) → read_as (reading_of r) level ≡ collected_level r level
@@ -59,14 +62,14 @@ module _ {r : Record} (s : Sound r) where
           let limit = by_kind kind none (r.cap + 1) (r.cap + 1) in
           cond (eqb limit none || leb level limit) (level - by_kind kind 0 0 1) (by_kind kind 0 0 none)
           ≡ by_kind kind level (cond (leb level (suc r.cap)) level 0) (cond (leb level (suc r.cap)) (level - 1) none)
-      go eroding = sub-zero level
-      go dilating = rw (limited, add-one r.cap, sub-zero level)
-      go cropping = rw (limited, add-one r.cap)
+      go Eroding = sub-zero level
+      go Dilating = rw (limited, add-one r.cap, sub-zero level)
+      go Cropping = rw (limited, add-one r.cap)
 
-  pub is_collected : (levels : List ℕ) (m : ℕ) → m ≡ margin r → (reading : Reading) → reading ≡ reading_of r
-      → raster r.width r.height (λ row col. read_as reading (level_in r.width m levels row col)) ≡ collected r levels
+  pub is_collected : (levels : List ℕ) (f : Frame) → f ≡ frame_of r → (reading : Reading) → reading ≡ reading_of r
+      → raster f.width f.height (λ row col. read_as reading (level_in f.width f.margin levels row col)) ≡ collected r levels
   unfolding collected
-  is_collected levels m q reading e =
+  is_collected levels f q reading e =
       rw (q, e) (ap (λ f. raster r.width r.height f)
       (fun_ext (λ row. fun_ext (λ col. collected_level_lem (level_in r.width (margin r) levels row col)))))
 
@@ -85,17 +88,16 @@ module _ {r : Record} (s : Sound r) where
           let high = by_kind kind none (n + 1) none in
           ◌≡◌ {A = ℕ} (cond ((eqb high none || leb level high) && ltb (by_kind kind n 0 (min n r.cap + 1)) level) 1 0)
           (cond (by_kind kind (ltb n level) (leb 1 level && leb level (suc n)) (ltb n (cropped_level r.cap level))) 1 0)
-      go eroding = refl
-      go dilating = rw (ne_eqb (n + 1) none (λ z. omega arith), add-one n) (swap (leb level (suc n)) (leb 1 level))
-      go cropping = ap (λ t. cond t 1 0) (cropped_above r.cap n level s.cap_small l)
+      go Eroding = refl
+      go Dilating = rw (ne_eqb (n + 1) none (λ z. omega arith), add-one n) (swap (leb level (suc n)) (leb 1 level))
+      go Cropping = ap (λ t. cond t 1 0) (cropped_above r.cap n level s.cap_small l)
 
-  pub is_thresholded : (levels : List ℕ) (n : ℕ) → n ≤ 4096 → (m : ℕ) → m ≡ margin r → (low high : ℕ)
-      → low ≡ low_of r n → high ≡ high_of r n
-      → packed r.width r.height (λ row col. held_between low high (level_in r.width m levels row col))
+  pub is_thresholded : (levels : List ℕ) (n : ℕ) → n ≤ 4096 → (f : Frame) → f ≡ frame_of r → (bounds : Bounds) → bounds ≡ bounds_of r n
+      → packed f.width f.height (λ row col. held_between bounds.low bounds.high (level_in f.width f.margin levels row col))
       ≡ thresholded r levels n
   unfolding thresholded
-  is_thresholded levels n l m q low high a b =
-      rw (q, a, b) (ap (λ f. packed r.width r.height f)
+  is_thresholded levels n l f q bounds b =
+      rw (q, b) (ap (λ f. packed r.width r.height f)
       (fun_ext (λ row. fun_ext (λ col. held_level n l (level_in r.width (margin r) levels row col)))))
 
 -- the judge of levels read at a size: each answer from the tests that led to it

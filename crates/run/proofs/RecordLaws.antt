@@ -21,7 +21,8 @@ use Rattle.element.proofs.ElementLaws.{side_bounds}
 use Rattle.sheet.specs.Sheets.{is_side_out}
 use Rattle.sheet.proofs.FrameLaws.{side_in}
 use Rattle.run.specs.declared.Record.{Record}
-use Rattle.run.specs.Kinds.{eroding, dilating, cropping, by_kind, erosion_kind, dilation_kind, background_beyond, foreground_beyond}
+use Rattle.run.specs.declared.kinds.Kind.TheVariants.{Eroding, Dilating, Cropping}
+use Rattle.run.specs.Kinds.{by_kind, erosion_kind, dilation_kind, background_beyond, foreground_beyond}
 use Rattle.run.specs.Records.{margin_of, margin, area_width, area_height, due, outside, any_outside, element_foreign}
 use Rattle.run.specs.Records.{kind_foreign, cap_foreign, foreign, record_bad}
 use Rattle.run.proofs.KindLaws.{of_erosion, of_cropped}
@@ -195,7 +196,7 @@ unfolding kind_foreign
 sound_kind r q = go (eqb r.kind 1) (eqb r.edge 0) refl refl q
   where
     go : (a b : Bool) → eqb r.kind 1 ≡ a → eqb r.edge 0 ≡ b
-        → by_kind (cond a (cond b eroding cropping) dilating) (not (eqb r.cap 0)) (not (eqb r.kind 2) || not (eqb r.edge 0))
+        → by_kind (cond a (cond b Eroding Cropping) Dilating) (not (eqb r.cap 0)) (not (eqb r.kind 2) || not (eqb r.edge 0))
         (not (eqb r.edge 1)) ≡ false → IsOfKind r
     go true true k e f = plain (eqb-true r.kind 1 k) (eqb-true r.edge 0 e) (eqb-true r.cap 0 (not-false _ f))
     go true false k e f = crops (eqb-true r.kind 1 k) (eqb-true r.edge 1 (not-false _ f))

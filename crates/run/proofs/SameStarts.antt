@@ -15,7 +15,9 @@ use Rattle.sheet.specs.Sheets.{pixel, sheet_refusals}
 use Rattle.sheet.specs.SamePixels.{SamePixels}
 use Rattle.sheet.proofs.SamePixelsLaws.{same_refusals}
 use Rattle.run.specs.declared.Record.{Record}
-use Rattle.run.specs.Kinds.{Kind, eroding, dilating, cropping, on_of, off_of, beyond_of}
+use Rattle.run.specs.declared.kinds.Kind.{Kind}
+use Rattle.run.specs.declared.kinds.Kind.TheVariants.{Eroding, Dilating, Cropping}
+use Rattle.run.specs.Kinds.{on_of, off_of, beyond_of}
 use Rattle.run.specs.Records.{margin, area_width, area_height, empty_record}
 use Rattle.run.specs.Starting.{framed, start_level, start_area, start_levels, begun, start_record, canvas_refusals, dilation_refusals}
 use Rattle.run.specs.SameStarts.{SameStarts}
@@ -53,9 +55,9 @@ module _ (width height : ℕ) (one other : List ℕ) (same : SamePixels width he
 pub same_starts : SameStarts
 same_starts width height one other size same side bytes lent m n x y = (
   alike width height one other same size (element_refusals side bytes ++ (10, not (eqb (length lent) (height * width))) ∷ [])
-      (empty_record, lent) (start_record eroding width height 0 side bytes) refl refl m n x y,
-  λ cap. on_canvas_lem dilating cap,
-  λ cap. on_canvas_lem cropping cap,
+      (empty_record, lent) (start_record Eroding width height 0 side bytes) refl refl m n x y,
+  λ cap. on_canvas_lem Dilating cap,
+  λ cap. on_canvas_lem Cropping cap,
 )
   where
     on_canvas_lem : (kind : Kind) (cap : ℕ)

@@ -23,7 +23,9 @@ use Rattle.scan.specs.Scan.{Reaches}
 use Rattle.scan.specs.Look.{partners}
 use Rattle.scan.proofs.PartnerLaws.{partners_element}
 use Rattle.run.specs.declared.Record.{Record}
-use Rattle.run.specs.Kinds.{Kind, eroding, dilating, cropping, kind_of, by_kind, cells_of}
+use Rattle.run.specs.declared.kinds.Kind.{Kind}
+use Rattle.run.specs.declared.kinds.Kind.TheVariants.{Eroding, Dilating, Cropping}
+use Rattle.run.specs.Kinds.{kind_of, by_kind, cells_of}
 use Rattle.run.specs.Records.{outside, any_outside}
 use Rattle.run.proofs.RecordLaws.{Sound}
 
@@ -77,9 +79,9 @@ module _ (r : Record) (s : Sound r) where
       go : (kind : Kind) (k : ℕ) → k < 49
           → cell_number (by_kind kind (unflat r.cells) (turned (unflat r.cells)) (unflat r.cells)) k ≢ 0
           → 3 ≤ k / 7 + reach r.side
-      go eroding k l n = given k l n
-      go cropping k l n = given k l n
-      go dilating k l n =
+      go Eroding k l n = given k l n
+      go Cropping k l n = given k l n
+      go Dilating k l n =
           let b = set_row (48 - k) (λ z. n (cell_turned r.cells k l ∙ z)) in
           let o = side_bounds r.side s.side_is in
           omega arith

@@ -19,7 +19,7 @@ use Rattle.basics.proofs.TableLaws.{length-raster, get_or-raster, raster_is}
 use Rattle.grid.specs.Figures.{reach}
 use Rattle.element.specs.Elements.{byte_at, count_set, element_refusals}
 use Rattle.element.specs.Cells.{cell_at, is_held, centred_cell, centred, flat, seven_by_seven}
-use Rattle.element.proofs.ElementLaws.{side_bounds, held_in, cell_in, cell_row_out, cell_column_out, accept_element}
+use Rattle.element.proofs.ElementLaws.{side_bounds, held_in, cell_in, cell_row_out, cell_column_out}
 use Rattle.element.proofs.Meaning.{seven_at, held_bounds}
 use Rattle.element.proofs.Accepted.{Accepted, byte_binary, another_set}
 use Rattle.run.specs.declared.Record.{Record}
@@ -250,7 +250,13 @@ module _ (r : Record) (s : Sound r) (size : length r.cells ≡ 49) where
       (λ z. h.3 (sym e ∙ z)) centre_byte
 
   pub bytes_accepted : first (element_refusals side bytes) ≡ 0
-  bytes_accepted = sym (accept_element side bytes s.side_is length_bytes (all_binary bytes byte_small) centre_byte other_byte)
+  bytes_accepted = rw (
+    s.side_is,
+    eq-eqb (length bytes) (side * side) length_bytes,
+    all_binary bytes byte_small,
+    ne_eqb (byte_at side bytes (reach side) (reach side)) 0 centre_byte,
+    ne_eqb (count_set bytes) 1 other_byte,
+  )
 
   pub bytes_give : flat (centred side bytes) ≡ r.cells
   unfolding flat centred

@@ -18,7 +18,9 @@ use Rattle.element.specs.Elements.{element_refusals}
 use Rattle.sheet.specs.Sheets.{row_bytes, sheet_refusals}
 use Rattle.sheet.proofs.FrameLaws.{accept_frame, accept_sheet, side_fits}
 use Rattle.run.specs.declared.Record.{Record}
-use Rattle.run.specs.Kinds.{Kind, eroding, dilating, cropping, by_kind, kind_number, edge_rule}
+use Rattle.run.specs.declared.kinds.Kind.{Kind}
+use Rattle.run.specs.declared.kinds.Kind.TheVariants.{Eroding, Dilating, Cropping}
+use Rattle.run.specs.Kinds.{by_kind, kind_number, edge_rule}
 use Rattle.run.specs.Records.{margin_of, canvas_side, area_width, area_height, kind_foreign, cap_foreign, foreign, due, record_bad}
 use Rattle.run.specs.Records.{empty_record}
 use Rattle.run.specs.Starting.{start_record, start_level, start_area, start_levels, begun, erosion_refusals, dilation_refusals}
@@ -47,9 +49,9 @@ CapOfKind kind cap = by_kind kind cap 0 0 ≡ 0
 kind_taken : (kind : Kind) (width height cap side : ℕ) (bytes : List ℕ) → CapOfKind kind cap
     → kind_foreign (start_record kind width height cap side bytes) ≡ false
 unfolding kind_foreign
-kind_taken eroding width height cap side bytes e = rw (eq-eqb cap 0 e)
-kind_taken dilating width height cap side bytes e = refl
-kind_taken cropping width height cap side bytes e = refl
+kind_taken Eroding width height cap side bytes e = rw (eq-eqb cap 0 e)
+kind_taken Dilating width height cap side bytes e = refl
+kind_taken Cropping width height cap side bytes e = refl
 
 -- what every accepted start gives, its canvas in its limits and its cap that of its kind
 begun_is : {width height : ℕ} {sheet : List ℕ} {side : ℕ} {bytes : List ℕ} → Judged width height sheet side bytes → (kind : Kind)
@@ -85,11 +87,11 @@ is_start (erosion width height sheet side bytes lent a) =
     let z = zero-mul (reach side) in
     let w = j.wide.1 in
     let h = j.high.1 in
-    begun_is j eroding 0 refl (omega arith) (omega arith) (omega arith) (a.accepted refl)
+    begun_is j Eroding 0 refl (omega arith) (omega arith) (omega arith) (a.accepted refl)
 is_start (dilation width height sheet side bytes cap lent a) =
-    canvas_start width height sheet side bytes cap lent dilating refl (sym a.refusal) (a.accepted refl)
+    canvas_start width height sheet side bytes cap lent Dilating refl (sym a.refusal) (a.accepted refl)
 is_start (cropped width height sheet side bytes cap lent a) =
-    canvas_start width height sheet side bytes cap lent cropping refl (sym a.refusal) (a.accepted refl)
+    canvas_start width height sheet side bytes cap lent Cropping refl (sym a.refusal) (a.accepted refl)
 
 -- a record that is not foreign is a start's, rows done aside: with an empty sheet and levels of the right length
 blank : ℕ → ℕ → List ℕ
@@ -140,7 +142,7 @@ module _ (r : Record) (s : Sound r) (size : length r.cells ≡ 49) where
       ∙ rw (eq-eqb (length lent) (h * w) (length-replicate (h * w) 0)) in (
         start_levels (with_rows r 0) sheet,
         erosion w h sheet r.side bytes lent
-            (accepts _ z (ap (λ (t : Record). begun t sheet) (same_record eroding 0 k e c))),
+            (accepts _ z (ap (λ (t : Record). begun t sheet) (same_record Eroding 0 k e c))),
       )
 
   given_canvas : (kind : Kind) → r.kind ≡ kind_number kind → r.edge ≡ edge_rule kind
@@ -187,5 +189,5 @@ foreign_exact r size = ((λ e. go (sound r e) (sound r e).kind_is), (λ h. sym (
   where
     go : Sound r → IsOfKind r → (levels : List ℕ) × Started (with_rows r 0) levels
     go s (plain k e c) = given_erosion r s size k e c
-    go s (dilates k e) = given_canvas r s size dilating k e (λ lent levels. dilation _ _ _ _ _ _ lent)
-    go s (crops k e) = given_canvas r s size cropping k e (λ lent levels. cropped _ _ _ _ _ _ lent)
+    go s (dilates k e) = given_canvas r s size Dilating k e (λ lent levels. dilation _ _ _ _ _ _ lent)
+    go s (crops k e) = given_canvas r s size Cropping k e (λ lent levels. cropped _ _ _ _ _ _ lent)

@@ -1,9 +1,11 @@
 -- What continuing a run answers.
-use Rattle.std.specs.Prelude.{ℕ, ◌+◌, ◌-◌, ◌*◌, min, ◌≡◌, Bool, false, not, List, [], ◌∷◌, eqb, ltb, length}
+use Rattle.std.specs.Prelude.{ℕ, ◌+◌, ◌-◌, ◌*◌, min, ◌≡◌, Bool, false, not, List, [], ◌∷◌, eqb, ltb, length, Result, Ok, Err}
+use Rattle.basics.specs.declared.refusal.Refusal as declared
 use Rattle.basics.specs.Limits.{most_rows}
 use Rattle.basics.specs.Refusals.{Refusal, Answers}
 use Rattle.scan.specs.Scan.{scan_rows, rows_lowered}
 use Rattle.run.specs.declared.Record.{Record}
+use Rattle.run.specs.declared.continuing.Continued.{Continued}
 use Rattle.run.specs.Records.{area_width, area_height, area_of, due, record_bad, empty_record}
 
 abbrev pub levels_wrong : Record → List ℕ → Bool
@@ -52,3 +54,8 @@ abbrev pub Continues : Record → List ℕ → ℕ → ℕ → State × ℕ → 
 Continues r levels allowance =
     Answers (continue_refusals r levels allowance) ((empty_record, false, levels), 0)
     (λ after. after ≡ (continued r levels allowance, lowered_by r levels allowance))
+
+-- what a call answers: its result, which has none beside a refusal, and the levels
+abbrev pub answer_of : Result Continued declared.Refusal → List ℕ → State × ℕ
+answer_of (Ok c) levels = ((c.run, c.done, levels), c.lowered)
+answer_of (Err _) levels = ((empty_record, false, levels), 0)

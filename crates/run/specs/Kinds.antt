@@ -5,9 +5,8 @@ use Rattle.basics.specs.Limits.{largest_size}
 use Rattle.element.specs.Cells.{turned, unflat}
 use Rattle.row.specs.RowRule.{none}
 use Rattle.run.specs.declared.Record.{Record}
-
-pub data Kind : Type 0 where
-  eroding dilating cropping : Kind
+use Rattle.run.specs.declared.kinds.Kind.{Kind}
+use Rattle.run.specs.declared.kinds.Kind.TheVariants.{Eroding, Dilating, Cropping}
 
 -- what a record has for them: its kind, and its edge rule, by which background or foreground lies beyond the frame
 abbrev pub erosion_kind : ℕ
@@ -23,13 +22,13 @@ abbrev pub foreground_beyond : ℕ
 foreground_beyond = 1
 
 abbrev pub kind_of : Record → Kind
-kind_of r = cond (eqb r.kind erosion_kind) (cond (eqb r.edge background_beyond) eroding cropping) dilating
+kind_of r = cond (eqb r.kind erosion_kind) (cond (eqb r.edge background_beyond) Eroding Cropping) Dilating
 
 -- one of three, by the kind
 abbrev pub by_kind : {A : Type 0} → Kind → A → A → A → A
-by_kind eroding erosion dilation cropped = erosion
-by_kind dilating erosion dilation cropped = dilation
-by_kind cropping erosion dilation cropped = cropped
+by_kind Eroding erosion dilation cropped = erosion
+by_kind Dilating erosion dilation cropped = dilation
+by_kind Cropping erosion dilation cropped = cropped
 
 abbrev pub kind_number : Kind → ℕ
 kind_number kind = by_kind kind erosion_kind dilation_kind erosion_kind

@@ -3,6 +3,7 @@ use Rattle.std.specs.Prelude.{ℕ, ◌+◌, ◌-◌, ◌*◌, ◌≤◌, ◌<◌
 use Rattle.basics.specs.Limits.{longest_side}
 use Rattle.row.specs.RowRule.{none}
 use Rattle.run.specs.declared.Record.{Record}
+use Rattle.run.specs.declared.kinds.Bounds.{Bounds}
 use Rattle.run.specs.declared.kinds.Reading.{Reading}
 use Rattle.run.specs.Kinds.{kind_of, by_kind}
 use Rattle.run.specs.Records.{canvas_side}
@@ -45,3 +46,6 @@ low_of r n = by_kind (kind_of r) n 0 (min n r.cap + 1)
 
 abbrev pub high_of : Record → ℕ → ℕ
 high_of r n = by_kind (kind_of r) none (n + 1) none
+
+abbrev pub bounds_of : Record → ℕ → Bounds
+bounds_of r n = record { low = low_of r n; high = high_of r n }

@@ -9,6 +9,7 @@ use Rattle.sheet.specs.Sheets.{is_side_out}
 use Rattle.row.specs.declared.Area.{Area}
 use Rattle.scan.specs.Scan.{area}
 use Rattle.run.specs.declared.Record.{Record}
+use Rattle.run.specs.declared.records.Frame.{Frame}
 use Rattle.run.specs.Kinds.{dilation_kind, background_beyond, foreground_beyond, kind_of, by_kind, cells_of, beyond_of}
 
 -- the margin of the canvas; the cap of a plain erosion is 0, so its area is the frame itself
@@ -26,6 +27,10 @@ area_width r = canvas_side r.width (margin r)
 
 abbrev pub area_height : Record → ℕ
 area_height r = canvas_side r.height (margin r)
+
+-- the frame with its margin
+abbrev pub frame_of : Record → Frame
+frame_of r = record { width = r.width; height = r.height; margin = margin r }
 
 -- 2H rows are due
 abbrev pub due : Record → ℕ

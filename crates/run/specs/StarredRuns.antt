@@ -8,7 +8,8 @@ use Rattle.sheet.specs.Sheets.{packed}
 use Rattle.row.specs.RowRule.{none}
 use Rattle.scan.specs.Scan.{scan_rows}
 use Rattle.run.specs.declared.Record.{Record}
-use Rattle.run.specs.Kinds.{Kind, eroding, dilating, cropping}
+use Rattle.run.specs.declared.kinds.Kind.{Kind}
+use Rattle.run.specs.declared.kinds.Kind.TheVariants.{Eroding, Dilating, Cropping}
 use Rattle.run.specs.Records.{area_of, due}
 use Rattle.run.specs.Starting.{start_record, start_levels, erosion_refusals, dilation_refusals}
 use Rattle.run.specs.Continuing.{with_rows}
@@ -53,14 +54,14 @@ Collected kind R refusals c =
 
 -- so for the erosion and dilation questions of the table; the others are no runs' (StarredFilters of filters)
 abbrev pub Given : Question → Case → Type 0
-Given erosion_levels c = Collected eroding 0 (erosion_refusals c.width c.height (sheet_of c) 3 (bytes_of c)) c
-Given (dilation_levels R) c = Collected dilating R (dilation_refusals c.width c.height (sheet_of c) 3 (bytes_of c) R) c
+Given erosion_levels c = Collected Eroding 0 (erosion_refusals c.width c.height (sheet_of c) 3 (bytes_of c)) c
+Given (dilation_levels R) c = Collected Dilating R (dilation_refusals c.width c.height (sheet_of c) 3 (bytes_of c) R) c
 Given (cropped_levels width height R) c =
-    Collected cropping R (dilation_refusals c.width c.height (sheet_of c) 3 (bytes_of c) R) c
+    Collected Cropping R (dilation_refusals c.width c.height (sheet_of c) 3 (bytes_of c) R) c
 Given (eroded_by n) c =
-    Shows (erosion_refusals c.width c.height (sheet_of c) 3 (bytes_of c) (last_levels c eroding 0))
-    (threshold_refusals (whole (record_of c eroding 0)) (last_levels c eroding 0) n (picture_of c))
-    (thresholded (whole (record_of c eroding 0)) (last_levels c eroding 0) n) (picture_of c)
+    Shows (erosion_refusals c.width c.height (sheet_of c) 3 (bytes_of c) (last_levels c Eroding 0))
+    (threshold_refusals (whole (record_of c Eroding 0)) (last_levels c Eroding 0) n (picture_of c))
+    (thresholded (whole (record_of c Eroding 0)) (last_levels c Eroding 0) n) (picture_of c)
 Given opening_levels c = Unit {0}
 Given (closing_levels R) c = Unit {0}
 Given (opened_by n) c = Unit {0}
@@ -72,4 +73,4 @@ RunsGive (c ∷ cases) = Given c.question c × RunsGive cases
 -- case 2 after one row: all levels are 65,535
 abbrev pub AfterOneRow : Type 0
 AfterOneRow =
-    scan_rows (area_of (record_of full_row eroding 0)) 0 1 (start_levels (record_of full_row eroding 0) (sheet_of full_row)) ≡ replicate 5 none
+    scan_rows (area_of (record_of full_row Eroding 0)) 0 1 (start_levels (record_of full_row Eroding 0) (sheet_of full_row)) ≡ replicate 5 none

@@ -7,7 +7,9 @@ use Rattle.element.specs.Elements.{element_refusals}
 use Rattle.element.specs.Cells.{centred, flat}
 use Rattle.sheet.specs.Sheets.{pixel, sheet_refusals}
 use Rattle.run.specs.declared.Record.{Record}
-use Rattle.run.specs.Kinds.{Kind, eroding, dilating, cropping, kind_number, edge_rule, beyond_of, on_of, off_of}
+use Rattle.run.specs.declared.kinds.Kind.{Kind}
+use Rattle.run.specs.declared.kinds.Kind.TheVariants.{Eroding, Dilating, Cropping}
+use Rattle.run.specs.Kinds.{kind_number, edge_rule, beyond_of, on_of, off_of}
 use Rattle.run.specs.Records.{margin_of, margin, canvas_side, empty_record}
 
 -- the record of a start, by its kind and edge rule
@@ -55,7 +57,7 @@ erosion_refusals width height sheet side bytes levels =
 abbrev pub StartsErosion : ℕ → ℕ → List ℕ → ℕ → List ℕ → List ℕ → ℕ → Record × List ℕ → Type 0
 StartsErosion width height sheet side bytes levels =
     Answers (erosion_refusals width height sheet side bytes levels) (empty_record, levels)
-    (λ after. after ≡ begun (start_record eroding width height 0 side bytes) sheet)
+    (λ after. after ≡ begun (start_record Eroding width height 0 side bytes) sheet)
 
 -- the canvas of a cap: a side above 4,096, and its size
 abbrev pub canvas_wrong : ℕ → ℕ → ℕ → ℕ → Bool
@@ -80,10 +82,10 @@ dilation_refusals width height sheet side bytes cap levels =
 abbrev pub StartsDilation : ℕ → ℕ → List ℕ → ℕ → List ℕ → ℕ → List ℕ → ℕ → Record × List ℕ → Type 0
 StartsDilation width height sheet side bytes cap levels =
     Answers (dilation_refusals width height sheet side bytes cap levels) (empty_record, levels)
-    (λ after. after ≡ begun (start_record dilating width height cap side bytes) sheet)
+    (λ after. after ≡ begun (start_record Dilating width height cap side bytes) sheet)
 
 -- refused as a dilation; 1 on the frame's background and 65,535 elsewhere on the canvas
 abbrev pub StartsCropped : ℕ → ℕ → List ℕ → ℕ → List ℕ → ℕ → List ℕ → ℕ → Record × List ℕ → Type 0
 StartsCropped width height sheet side bytes cap levels =
     Answers (dilation_refusals width height sheet side bytes cap levels) (empty_record, levels)
-    (λ after. after ≡ begun (start_record cropping width height cap side bytes) sheet)
+    (λ after. after ≡ begun (start_record Cropping width height cap side bytes) sheet)

@@ -1,49 +1,36 @@
 // Continuing a run by an allowance of rows.
 ghost use Rattle.std.specs.Prelude.{◌≡◌, false, ◌+◌, ◌*◌, ◌≤◌, length};
-ghost use Rattle.basics.specs.Refusals.{first};
+ghost use Rattle.basics.specs.Refusals.{first, number};
 ghost use Rattle.scan.specs.Scan.{scan_rows, rows_lowered};
-ghost use Rattle.run.specs.Records.{area_width, area_height, due, area_of, foreign, empty_record};
-ghost use Rattle.run.specs.Continuing.{continue_refusals, with_rows, Continues};
+ghost use Rattle.run.specs.Records.{area_width, area_height, due, area_of, foreign};
+ghost use Rattle.run.specs.Continuing.{continue_refusals, answer_of, Continues};
 
 use super::{Record, kinds, records};
+use basics::Refusal;
 use row::Area;
 
-// What a continue answers: the refusal number, 0 where it is accepted, the new record, whether all rows are done, and how many
-// points its rows lowered.
+// What a continue answers: the new record, whether all rows are done, and how many points its rows lowered.
 #[derive(Clone, Copy)]
 pub struct Continued {
-    pub refusal: u32,
     pub run: Record,
     pub done: bool,
     pub lowered: usize,
 }
 
-fn refused(number: u32) -> Continued
-    ensures { result ≡ record { refusal = number; run = empty_record; done = false; lowered = 0 } }
-{
-    let run = records::no_record();
-    Continued {
-        refusal: number,
-        run,
-        done: false,
-        lowered: 0,
-    }
-}
-
-// Refusals 1, 10 and 12 of a continue, or 0.
-pub fn continue_refusal(run: Record, levels: &[u16], allowance: usize) -> u32
-    ensures { result ≡ first (continue_refusals run levels.now allowance) }
+// Refusals 1, 10 and 12 of a continue.
+pub fn check_continue(run: Record, levels: &[u16], allowance: usize) -> Result<(), Refusal>
+    ensures { number result ≡ first (continue_refusals run levels.now allowance) }
 {
     if records::record_bad(run) {
-        return 1;
+        return Err(Refusal::Record);
     }
     if records::levels_wrong(run, levels) {
-        return 10;
+        return Err(Refusal::LevelsLength);
     }
     if basics::MOST_ROWS < allowance {
-        return 12;
+        return Err(Refusal::Allowance);
     }
-    0
+    Ok(())
 }
 
 // Works `count` rows of those due, and counts the points they lower.
@@ -63,41 +50,18 @@ fn work_rows(run: Record, levels: &mut [u16], count: usize) -> usize
     scan::scan_rows(levels, &area, run.rows, count, reach)
 }
 
-// The record with other rows done.
-fn with_rows(run: Record, rows: usize) -> Record
-    ensures { result ≡ with_rows run rows }
-{
-    let cells = run.cells;
-    Record {
-        kind: run.kind,
-        width: run.width,
-        height: run.height,
-        cap: run.cap,
-        side: run.side,
-        rows,
-        cells,
-        edge: run.edge,
-    }
-}
-
 // Public: works the allowance or what is due, the lesser. Refusals 1, 10, 12.
-pub fn continue_run(run: Record, levels: &mut [u16], allowance: usize) -> Continued
-    ensures { Continues run levels.old allowance result.refusal
-        ((result.run, result.done, levels.new), result.lowered) }
+pub fn continue_run(run: Record, levels: &mut [u16], allowance: usize) -> Result<Continued, Refusal>
+    ensures { Continues run levels.old allowance (number result) (answer_of result levels.new) }
 {
-    let refusal = continue_refusal(run, levels, allowance);
-    if refusal != 0 {
-        return refused(refusal);
-    }
-    let rows = run.rows;
+    check_continue(run, levels, allowance)?;
     let due = records::rows_due(run);
-    let count = allowance.min(due - rows);
+    let count = allowance.min(due - run.rows);
     let lowered = work_rows(run, levels, count);
-    let next = with_rows(run, rows + count);
-    Continued {
-        refusal: 0,
-        run: next,
-        done: rows + count == due,
+    let rows = run.rows + count;
+    Ok(Continued {
+        run: Record { rows, ..run },
+        done: rows == due,
         lowered,
-    }
+    })
 }

@@ -1,12 +1,21 @@
 // What differs by a run's kind: the cells that it scans with, what a partner beyond its area reads, its start levels, and how its
 // levels are read.
-ghost use Rattle.std.specs.Prelude.{◌≡◌, ◌≤◌};
+ghost use Rattle.std.specs.Prelude.{◌≡◌, ◌≤◌, cond};
 ghost use Rattle.basics.specs.Limits.{largest_size, highest_cap};
 ghost use Rattle.run.specs.Kinds.{kind_of, by_kind, cells_of, beyond_of, on_of, off_of, size_limit};
-ghost use Rattle.run.specs.Patches.{reading_of, low_of, high_of};
+ghost use Rattle.run.specs.Patches.{reading_of, bounds_of, read_as, held_between};
 
 use super::Record;
 
+// The kinds of run: an erosion, a dilation, and the erosion of a cropped sheet, with foreground beyond the frame.
+#[derive(Clone, Copy, Debug, PartialEq, Eq)]
+pub enum Kind {
+    Eroding,
+    Dilating,
+    Cropping,
+}
+
+// Kept as numbers: a record is also what a caller has in memory, and one that no start gives is answered.
 // The kinds, as a record has them.
 pub const EROSION: u8 = 1;
 
@@ -17,69 +26,66 @@ pub const BACKGROUND: u8 = 0;
 
 pub const FOREGROUND: u8 = 1;
 
-// One of three levels: for a plain erosion, for a dilation, for the erosion of a cropped sheet.
-pub fn by_kind(run: Record, erosion: u16, dilation: u16, cropped: u16) -> u16
-    ensures { result ≡ by_kind (kind_of run) erosion dilation cropped }
+// A record's kind: both erosions have one number, and differ by the edge rule.
+pub fn kind_of(run: Record) -> Kind
+    ensures { result ≡ kind_of run }
 {
     if run.kind != EROSION {
-        return dilation;
+        Kind::Dilating
+    } else if run.edge != BACKGROUND {
+        Kind::Cropping
+    } else {
+        Kind::Eroding
     }
-    if run.edge != BACKGROUND {
-        return cropped;
-    }
-    erosion
 }
 
-// One of three numbers, in the same way.
-pub fn number_by_kind(run: Record, erosion: usize, dilation: usize, cropped: usize) -> usize
-    ensures { result ≡ by_kind (kind_of run) erosion dilation cropped }
+// One of three, by the kind.
+pub fn by_kind<T: Copy>(kind: Kind, erosion: T, dilation: T, cropped: T) -> T
+    ensures { result ≡ by_kind kind erosion dilation cropped }
 {
-    if run.kind != EROSION {
-        return dilation;
+    match kind {
+        Kind::Eroding => erosion,
+        Kind::Dilating => dilation,
+        Kind::Cropping => cropped,
     }
-    if run.edge != BACKGROUND {
-        return cropped;
-    }
-    erosion
 }
 
 // The cells that lead to the partners: the element's for either erosion, turned about for a dilation.
 pub fn scan_cells(run: Record) -> [[u8; 7]; 7]
     ensures { result ≡ cells_of run }
 {
-    let flat = run.cells;
-    let cells = element::rows_of(flat);
-    if run.kind != EROSION {
-        return element::turned_cells(cells);
+    let cells = element::rows_of(run.cells);
+    match kind_of(run) {
+        Kind::Dilating => element::turned_cells(cells),
+        Kind::Eroding | Kind::Cropping => cells,
     }
-    cells
 }
 
 // What a partner beyond the area reads; a margin starts with it.
 pub fn beyond_of(run: Record) -> u16
     ensures { result ≡ beyond_of run }
 {
-    by_kind(run, 0, row::NONE, row::NONE)
+    by_kind(kind_of(run), 0, row::NONE, row::NONE)
 }
 
 // The start levels on the foreground, and on the frame's background.
 pub fn on_of(run: Record) -> u16
     ensures { result ≡ on_of run }
 {
-    by_kind(run, row::NONE, 1, row::NONE)
+    by_kind(kind_of(run), row::NONE, 1, row::NONE)
 }
 
 pub fn off_of(run: Record) -> u16
     ensures { result ≡ off_of run }
 {
-    by_kind(run, 0, row::NONE, 1)
+    by_kind(kind_of(run), 0, row::NONE, 1)
 }
 
 // The greatest size that may be asked for.
 pub fn size_limit(run: Record) -> usize
     ensures { result ≡ size_limit run }
 {
-    number_by_kind(run, basics::LARGEST_SIZE, run.cap, run.cap)
+    by_kind(kind_of(run), basics::LARGEST_SIZE, run.cap, run.cap)
 }
 
 // How a level is read: up to `limit` it is given `less` lower, but not below 0; above, `other` is given.
@@ -90,33 +96,63 @@ pub struct Reading {
     pub other: u16,
 }
 
+impl Reading {
+    // The level as it is read.
+    #[tactic(auto, unfolding(crate::specs::Patches::read_as))]
+    pub fn read(self, level: u16) -> u16
+        ensures { result ≡ read_as self level }
+    {
+        if self.limit < level {
+            self.other
+        } else {
+            level.saturating_sub(self.less)
+        }
+    }
+}
+
 // How levels are collected: any of a plain erosion as it is; of a dilation, those above R + 1 as 0; of a cropped sheet's erosion one
 // less, and those above R + 1 as 65,535.
 pub fn reading_of(run: Record) -> Reading
     requires { run.cap ≤ highest_cap }
     ensures { result ≡ reading_of run }
 {
+    let kind = kind_of(run);
     let limit = run.cap as u16 + 1;
-    let limit = by_kind(run, row::NONE, limit, limit);
-    let less = by_kind(run, 0, 0, 1);
-    let other = by_kind(run, 0, 0, row::NONE);
-    Reading { limit, less, other }
+    Reading {
+        limit: by_kind(kind, row::NONE, limit, limit),
+        less: by_kind(kind, 0, 0, 1),
+        other: by_kind(kind, 0, 0, row::NONE),
+    }
 }
 
-// A held level is above this: the size itself for a plain erosion, 0 for a dilation; for a cropped sheet's erosion, whose levels are
-// collected one less, the size and one, at most R + 1.
-pub fn below_held(run: Record, size: usize) -> u16
+// The levels that are held: those above `low` and at most `high`.
+#[derive(Clone, Copy)]
+pub struct Bounds {
+    pub low: u16,
+    pub high: u16,
+}
+
+impl Bounds {
+    // Whether a level is held.
+    #[tactic(auto, unfolding(crate::specs::Patches::held_between))]
+    pub fn hold(self, level: u16) -> bool
+        ensures { cond result 1 0 ≡ held_between self.low self.high level }
+    {
+        self.low < level && level <= self.high
+    }
+}
+
+// The levels that a run holds at a size: above the size for a plain erosion; from 1 to the size and one for a dilation; for a cropped
+// sheet's erosion, whose levels are collected one less, above the size and one, at most R + 1.
+pub fn bounds_of(run: Record, size: usize) -> Bounds
     requires { (run.cap ≤ highest_cap) × (size ≤ largest_size) }
-    ensures { result ≡ low_of run size }
+    ensures { result ≡ bounds_of run size }
 {
-    let most = size.min(run.cap);
-    by_kind(run, size as u16, 0, most as u16 + 1)
-}
-
-// A held level is at most this: any for an erosion, the size and one for a dilation.
-pub fn highest_held(run: Record, size: usize) -> u16
-    requires { size ≤ largest_size }
-    ensures { result ≡ high_of run size }
-{
-    by_kind(run, row::NONE, size as u16 + 1, row::NONE)
+    let kind = kind_of(run);
+    let size_level = size as u16;
+    let most = size.min(run.cap) as u16 + 1;
+    Bounds {
+        low: by_kind(kind, size_level, 0, most),
+        high: by_kind(kind, row::NONE, size_level + 1, row::NONE),
+    }
 }

@@ -9,6 +9,14 @@ pub mod provisional;
 pub mod records;
 pub mod starting;
 
+// The numbers of an input: the sides of the frame, and the element's side.
+#[derive(Clone, Copy)]
+pub struct Input {
+    pub width: usize,
+    pub height: usize,
+    pub side: usize,
+}
+
 // A run's record. Kind 1 is an erosion, 2 a dilation; the cells are the element's 49 in one flat row, as given. The edge rule is 0
 // where background lies beyond the frame and 1 where foreground does, as for an erosion of a cropped sheet; a plain erosion has no
 // cap, which is then 0.

@@ -1,71 +1,81 @@
 // Records: whether a start could have given one, and the area that its run works on.
-ghost use Rattle.std.specs.Prelude.{◌≡◌, true, false, ◌≤◌};
+ghost use Rattle.std.specs.Prelude.{◌≡◌, true, false, ◌*◌, ◌^◌, ◌<◌, ◌≤◌};
 ghost use Rattle.basics.specs.Limits.{longest_side, highest_cap, most_rows};
+ghost use Rattle.basics.specs.Tables.{table};
 ghost use Rattle.element.specs.Elements.{is_side};
-ghost use Rattle.element.specs.Cells.{is_held};
-ghost use Rattle.run.specs.Records.{margin_of, area_width, area_height, due, outside, any_outside, element_foreign, kind_foreign};
-ghost use Rattle.run.specs.Records.{cap_foreign, foreign, record_bad, empty_record};
+ghost use Rattle.run.specs.Records.{margin_of, canvas_side, area_width, area_height, due, outside, any_outside, element_foreign};
+ghost use Rattle.run.specs.Records.{kind_foreign, cap_foreign, foreign, record_bad, frame_of};
 ghost use Rattle.run.specs.Continuing.{levels_wrong, is_done};
+ghost use Rattle.run.specs.Patches.{Canvas, level_in};
 
+use super::kinds::Kind;
 use super::{Record, kinds};
 
-// Whether place `p` of seven is one of the side's, centred among the seven.
-fn is_held(side: usize, p: usize) -> bool
-    requires { is_side side ≡ true }
-    ensures { result ≡ is_held side p }
-{
-    let before = 3 - (side - 1) / 2;
-    if p < before {
-        return false;
+// A frame, and the margin of the canvas around it.
+#[derive(Clone, Copy)]
+pub struct Frame {
+    pub width: usize,
+    pub height: usize,
+    pub margin: usize,
+}
+
+impl Frame {
+    // The sides of the area: the frame's, with the margin on both sides.
+    pub fn area_width(self) -> usize
+        requires { canvas_side self.width self.margin ≤ 2 ^ 32 }
+        ensures { result ≡ canvas_side self.width self.margin }
+    {
+        self.width + 2 * self.margin
     }
-    p < before + side
+
+    pub fn area_height(self) -> usize
+        requires { canvas_side self.height self.margin ≤ 2 ^ 32 }
+        ensures { result ≡ canvas_side self.height self.margin }
+    {
+        self.height + 2 * self.margin
+    }
+
+    // The levels of a row of the frame, of those of the area.
+    pub fn row(self, levels: &[u16], row: usize) -> &[u16]
+        requires { Canvas self.width self.height self.margin levels.now × (row < self.height) }
+        ensures { result.now ≡ table self.width (level_in self.width self.margin levels.now row) }
+    {
+        let from = (row + self.margin) * self.area_width() + self.margin;
+        &levels[from..from + self.width]
+    }
 }
 
 // Whether cell `k` is set though it lies outside the side's square.
+#[tactic(auto, unfolding(crate::specs::Records::outside))]
 fn is_outside(side: usize, cell: u8, k: usize) -> bool
     requires { is_side side ≡ true }
     ensures { result ≡ outside side cell k }
 {
-    if cell == 0 {
-        return false;
-    }
-    if !is_held(side, k / 7) {
-        return true;
-    }
-    !is_held(side, k % 7)
+    cell != 0 && !(element::is_held(side, k / 7) && element::is_held(side, k % 7))
 }
 
 fn any_outside(side: usize, cells: [u8; 49]) -> bool
     requires { is_side side ≡ true }
     ensures { result ≡ any_outside side cells 0 }
 {
-    let mut k = 0;
-    while k < 49 {
+    for k in 0..49 {
         if is_outside(side, cells[k], k) {
             return true;
         }
-        k += 1;
     }
     false
 }
 
 // Whether no start takes the element.
+#[tactic(auto, unfolding(crate::specs::Records::element_foreign))]
 fn element_foreign(side: usize, cells: [u8; 49]) -> bool
     ensures { result ≡ element_foreign side cells }
 {
-    if !element::is_side(side) {
-        return true;
-    }
-    if element::any_above_one(&cells) {
-        return true;
-    }
-    if any_outside(side, cells) {
-        return true;
-    }
-    if cells[24] == 0 {
-        return true;
-    }
-    element::count_set(&cells) == 1
+    !element::is_side(side)
+        || element::any_above_one(&cells)
+        || any_outside(side, cells)
+        || cells[24] == 0
+        || element::count_set(&cells) == 1
 }
 
 // The margin of the canvas.
@@ -76,73 +86,68 @@ pub fn margin_of(cap: usize, side: usize) -> usize
     cap * ((side - 1) / 2)
 }
 
+// A run's frame, with its margin.
+pub fn frame_of(run: Record) -> Frame
+    requires { (is_side run.side ≡ true) × (run.cap ≤ highest_cap) }
+    ensures { (result ≡ frame_of run) × (result.margin ≤ 6141) }
+{
+    Frame {
+        width: run.width,
+        height: run.height,
+        margin: margin_of(run.cap, run.side),
+    }
+}
+
 // Whether no start gives the kind with the edge rule, or a plain erosion with a cap.
+#[tactic(auto, unfolding(crate::specs::Records::kind_foreign))]
 fn kind_foreign(run: Record) -> bool
     ensures { result ≡ kind_foreign run }
 {
-    if run.kind == kinds::EROSION {
-        if run.edge == kinds::BACKGROUND {
-            return run.cap != 0;
-        }
-        return run.edge != kinds::FOREGROUND;
+    match kinds::kind_of(run) {
+        Kind::Eroding => run.cap != 0,
+        Kind::Dilating => run.kind != kinds::DILATION || run.edge != kinds::BACKGROUND,
+        Kind::Cropping => run.edge != kinds::FOREGROUND,
     }
-    if run.kind != kinds::DILATION {
-        return true;
-    }
-    run.edge != kinds::BACKGROUND
 }
 
 // Whether no start takes the cap, on the canvas that it gives.
+#[tactic(auto, unfolding(crate::specs::Records::cap_foreign))]
 fn cap_foreign(run: Record) -> bool
     requires { (is_side run.side ≡ true) × ((run.width ≤ longest_side) × (run.height ≤ longest_side)) }
     ensures { result ≡ cap_foreign run }
 {
-    let cap = run.cap;
-    if basics::HIGHEST_CAP < cap {
+    if basics::HIGHEST_CAP < run.cap {
         return true;
     }
-    let margin = margin_of(cap, run.side);
-    if basics::LONGEST_SIDE < run.width + (margin + margin) {
-        return true;
-    }
-    basics::LONGEST_SIDE < run.height + (margin + margin)
+    let frame = frame_of(run);
+    basics::LONGEST_SIDE < frame.area_width() || basics::LONGEST_SIDE < frame.area_height()
 }
 
 // Whether no start gives the record, rows done aside.
+#[tactic(auto, using(sheet::proofs::FrameLaws::side_in, crate::proofs::RecordLaws::taken_side), unfolding(crate::specs::Records::foreign))]
 fn record_foreign(run: Record) -> bool
     ensures { result ≡ foreign run }
 {
-    if sheet::is_side_out(run.width) {
-        return true;
-    }
-    if sheet::is_side_out(run.height) {
-        return true;
-    }
-    let cells = run.cells;
-    if element_foreign(run.side, cells) {
-        return true;
-    }
-    if kind_foreign(run) {
-        return true;
-    }
-    cap_foreign(run)
+    sheet::is_side_out(run.width)
+        || sheet::is_side_out(run.height)
+        || element_foreign(run.side, run.cells)
+        || kind_foreign(run)
+        || cap_foreign(run)
 }
 
-// The sides of the area: the frame's, with the margin on both sides.
+// The sides of the area.
 pub fn area_width(run: Record) -> usize
     requires { foreign run ≡ false }
     ensures { (result ≡ area_width run) × ((1 ≤ result) × (result ≤ longest_side)) }
 {
-    let margin = margin_of(run.cap, run.side);
-    run.width + (margin + margin)
+    frame_of(run).area_width()
 }
 
 pub fn area_height(run: Record) -> usize
     requires { foreign run ≡ false }
     ensures { (result ≡ area_height run) × ((1 ≤ result) × (result ≤ longest_side)) }
 {
-    let margin = margin_of(run.cap, run.side);
-    run.height + (margin + margin)
+    frame_of(run).area_height()
 }
 
 // The rows due in all.
@@ -150,8 +155,7 @@ pub fn rows_due(run: Record) -> usize
     requires { foreign run ≡ false }
     ensures { (result ≡ due run) × (result ≤ most_rows) }
 {
-    let height = area_height(run);
-    height + height
+    2 * area_height(run)
 }
 
 // Whether all of them are done.
@@ -171,28 +175,9 @@ pub fn levels_wrong(run: Record, levels: &[u16]) -> bool
 }
 
 // Refusal 1: no start gives the record, or more rows are done than due.
+#[tactic(auto, unfolding(crate::specs::Records::record_bad))]
 pub fn record_bad(run: Record) -> bool
     ensures { result ≡ record_bad run }
 {
-    if record_foreign(run) {
-        return true;
-    }
-    rows_due(run) < run.rows
-}
-
-// The record beside a refusal: all zero.
-pub fn no_record() -> Record
-    ensures { result ≡ empty_record }
-{
-    let cells = [0u8; 49];
-    Record {
-        kind: 0,
-        width: 0,
-        height: 0,
-        cap: 0,
-        side: 0,
-        rows: 0,
-        cells,
-        edge: 0,
-    }
+    record_foreign(run) || rows_due(run) < run.rows
 }

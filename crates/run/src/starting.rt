@@ -1,119 +1,78 @@
 // Starting a run: the three starts judge their inputs, make the record, and fill the levels by it.
 ghost use Rattle.std.specs.Prelude.{◌≡◌, true, cond, ◌++◌, ◌+◌, ◌*◌, ◌<◌, ◌≤◌, eqb, length};
 ghost use Rattle.basics.specs.Limits.{longest_side, highest_cap};
-ghost use Rattle.basics.specs.Refusals.{first, Answers};
+ghost use Rattle.basics.specs.Refusals.{first, number, value_or, Answers};
+ghost use Rattle.basics.specs.Tables.{table};
 ghost use Rattle.element.specs.Elements.{is_side, element_refusals};
 ghost use Rattle.sheet.specs.Sheets.{pixel, row_bytes, sheet_refusals};
 ghost use Rattle.run.specs.Records.{margin, canvas_side, empty_record};
-ghost use Rattle.run.specs.Starting.{fresh_record, start_level, start_area, start_levels, begun, erosion_refusals, StartsErosion};
+ghost use Rattle.run.specs.Starting.{start_record, start_level, start_area, start_levels, begun, erosion_refusals, StartsErosion};
 ghost use Rattle.run.specs.Starting.{canvas_refusals, dilation_refusals, StartsDilation, StartsCropped};
-ghost use Rattle.run.specs.Patches.{Patch, Canvas};
+ghost use Rattle.run.specs.Patches.{Canvas};
 
-use super::{Record, kinds, records};
+use super::kinds::Kind;
+use super::records::Frame;
+use super::{Input, Record, kinds, records};
+use basics::Refusal;
 
-// What a start answers: the refusal number, 0 where it is accepted, and the run's record, all zero beside a refusal.
+// The levels that points start with: on the foreground, on the frame's background, and in the margin.
 #[derive(Clone, Copy)]
-pub struct Started {
-    pub refusal: u32,
-    pub run: Record,
-}
-
-// The `n` levels from `at` on become `level`.
-pub fn fill_level(levels: &mut [u16], at: usize, n: usize, level: u16)
-    requires { at + n ≤ length levels.old }
-    ensures { Patch at n (λ i. level) levels.old levels.new }
-{
-    let mut i = 0;
-    while i < n {
-        levels[at + i] = level;
-        i += 1;
-    }
-}
-
-// `one` where a number is 1, as a pixel of the foreground is, else `other`.
-pub fn where_one(number: u8, one: u16, other: u16) -> u16
-    ensures { result ≡ cond (eqb number 1) one other }
-{
-    if number == 1 {
-        return one;
-    }
-    other
-}
-
-// The levels from `at` on become those of the pixels in a row of the frame.
-fn fill_pixels(
-    levels: &mut [u16],
-    at: usize,
-    width: usize,
-    sheet: &[u8],
-    row: usize,
-    on: u16,
-    off: u16,
-)
-    requires { (at + width ≤ length levels.old) ×
-        ((width ≤ longest_side) × ((row < longest_side) × (row * row_bytes width + row_bytes width ≤ length sheet.now))) }
-    ensures { Patch at width (λ col. cond (eqb (pixel width sheet.now row col) 1) on off) levels.old
-        levels.new }
-{
-    let mut col = 0;
-    while col < width {
-        let level = where_one(sheet::pixel_at(width, sheet, row, col), on, off);
-        levels[at + col] = level;
-        col += 1;
-    }
-}
-
-// A row of the area: off the frame all is `outside`; else the left margin, the pixels, the right margin.
-fn fill_row(
-    levels: &mut [u16],
-    width: usize,
-    height: usize,
-    margin: usize,
-    sheet: &[u8],
-    row: usize,
+struct Starts {
     on: u16,
     off: u16,
     outside: u16,
-)
-    requires { Canvas width height margin levels.old ×
-        ((length sheet.now ≡ height * row_bytes width) × (row < canvas_side height margin)) }
-    ensures { Patch (row * canvas_side width margin) (canvas_side width margin)
-        (start_level width height margin sheet.now on off outside row) levels.old levels.new }
-{
-    let side = width + (margin + margin);
-    let at = row * side;
-    if row < margin {
-        fill_level(levels, at, side, outside);
-        return;
-    }
-    if margin + height <= row {
-        fill_level(levels, at, side, outside);
-        return;
-    }
-    fill_level(levels, at, margin, outside);
-    fill_pixels(levels, at + margin, width, sheet, row - margin, on, off);
-    fill_level(levels, at + margin + width, margin, outside);
 }
 
-// The start levels: `on` on the foreground, `off` on the frame's background, `outside` in the margin.
-fn fill_area(
-    levels: &mut [u16],
-    width: usize,
-    height: usize,
-    margin: usize,
-    sheet: &[u8],
-    on: u16,
-    off: u16,
-    outside: u16,
-)
-    requires { Canvas width height margin levels.old × (length sheet.now ≡ height * row_bytes width) }
-    ensures { levels.new ≡ start_area width height margin sheet.now on off outside }
+// The levels of a row of the frame become those of its pixels.
+fn fill_pixels(levels: &mut [u16], sheet: &[u8], row: usize, starts: Starts)
+    requires { (length levels.old ≤ longest_side) × ((row < longest_side) ×
+        (row * row_bytes (length levels.old) + row_bytes (length levels.old) ≤ length sheet.now)) }
+    ensures { levels.new ≡ table (length levels.old)
+        (λ col. cond (eqb (pixel (length levels.old) sheet.now row col) 1) starts.on starts.off) }
 {
-    let rows = height + (margin + margin);
-    let mut row = 0;
-    while row < rows {
-        fill_row(levels, width, height, margin, sheet, row, on, off, outside);
-        row += 1;
+    let width = levels.len();
+    for col in 0..width {
+        levels[col] = if sheet::pixel_at(width, sheet, row, col) == 1 {
+            starts.on
+        } else {
+            starts.off
+        };
+    }
+}
+
+// A row of the area: off the frame all is outside; else the left margin, the pixels, the right margin.
+fn fill_row(levels: &mut [u16], frame: Frame, sheet: &[u8], row: usize, starts: Starts)
+    requires { (length levels.old ≡ canvas_side frame.width frame.margin) ×
+        ((canvas_side frame.width frame.margin ≤ longest_side) × ((canvas_side frame.height frame.margin ≤ longest_side) ×
+        ((length sheet.now ≡ frame.height * row_bytes frame.width) × (row < canvas_side frame.height frame.margin)))) }
+    ensures { levels.new ≡ table (canvas_side frame.width frame.margin)
+        (start_level frame.width frame.height frame.margin sheet.now starts.on starts.off starts.outside row) }
+{
+    if row < frame.margin || frame.margin + frame.height <= row {
+        levels.fill(starts.outside);
+        return;
+    }
+    let end = frame.margin + frame.width;
+    levels[..frame.margin].fill(starts.outside);
+    fill_pixels(
+        &mut levels[frame.margin..end],
+        sheet,
+        row - frame.margin,
+        starts,
+    );
+    levels[end..].fill(starts.outside);
+}
+
+// The start levels of the area.
+fn fill_area(levels: &mut [u16], frame: Frame, sheet: &[u8], starts: Starts)
+    requires { Canvas frame.width frame.height frame.margin levels.old × (length sheet.now ≡ frame.height * row_bytes frame.width) }
+    ensures { levels.new
+        ≡ start_area frame.width frame.height frame.margin sheet.now starts.on starts.off starts.outside }
+{
+    let side = frame.area_width();
+    for row in 0..frame.area_height() {
+        let at = row * side;
+        fill_row(&mut levels[at..at + side], frame, sheet, row, starts);
     }
 }
 
@@ -123,233 +82,163 @@ fn fill_levels(run: Record, sheet: &[u8], levels: &mut [u16])
         (Canvas run.width run.height (margin run) levels.old × (length sheet.now ≡ run.height * row_bytes run.width))) }
     ensures { levels.new ≡ start_levels run sheet.now }
 {
-    let margin = records::margin_of(run.cap, run.side);
-    let on = kinds::on_of(run);
-    let off = kinds::off_of(run);
-    let outside = kinds::beyond_of(run);
-    fill_area(
-        levels, run.width, run.height, margin, sheet, on, off, outside,
-    );
+    let starts = Starts {
+        on: kinds::on_of(run),
+        off: kinds::off_of(run),
+        outside: kinds::beyond_of(run),
+    };
+    fill_area(levels, records::frame_of(run), sheet, starts);
 }
 
-// Refusals 2 to 7, which all starts have, or 0.
-pub fn start_refusal(width: usize, height: usize, sheet: &[u8], side: usize, bytes: &[u8]) -> u32
-    ensures { result ≡ first (sheet_refusals width height sheet.now ++ element_refusals side bytes.now) }
+// Refusals 2 to 7, which all starts have.
+pub fn check_start(input: Input, sheet: &[u8], bytes: &[u8]) -> Result<(), Refusal>
+    ensures { number result ≡ first (sheet_refusals input.width input.height sheet.now ++ element_refusals input.side bytes.now) }
 {
-    let refusal = sheet::sheet_refusal(width, height, sheet);
-    if refusal != 0 {
-        return refusal;
-    }
-    element::element_refusal(side, bytes)
+    sheet::check_sheet(input.width, input.height, sheet)?;
+    element::check_element(input.side, bytes)
 }
 
-// Refusals 9 and 10 of a canvas with so many levels, or 0.
-pub fn canvas_refusal(width: usize, height: usize, cap: usize, side: usize, count: usize) -> u32
-    requires { (width ≤ longest_side) × ((height ≤ longest_side) × ((is_side side ≡ true) × (cap ≤ highest_cap))) }
-    ensures { result ≡ first (canvas_refusals width height cap side count) }
+// Refusals 9 and 10 of a canvas with so many levels.
+pub fn check_canvas(input: Input, cap: usize, count: usize) -> Result<(), Refusal>
+    requires { (input.width ≤ longest_side) × ((input.height ≤ longest_side) ×
+        ((is_side input.side ≡ true) × (cap ≤ highest_cap))) }
+    ensures { number result ≡ first (canvas_refusals input.width input.height cap input.side count) }
 {
-    let margin = records::margin_of(cap, side);
-    let canvas_width = width + (margin + margin);
-    let canvas_height = height + (margin + margin);
-    if basics::LONGEST_SIDE < canvas_width {
-        return 9;
+    let frame = Frame {
+        width: input.width,
+        height: input.height,
+        margin: records::margin_of(cap, input.side),
+    };
+    let width = frame.area_width();
+    let height = frame.area_height();
+    if basics::LONGEST_SIDE < width || basics::LONGEST_SIDE < height {
+        return Err(Refusal::CanvasSide);
     }
-    if basics::LONGEST_SIDE < canvas_height {
-        return 9;
+    if count != height * width {
+        return Err(Refusal::LevelsLength);
     }
-    if count != canvas_height * canvas_width {
-        return 10;
-    }
-    0
+    Ok(())
 }
 
-// Refusals 2 to 7 and 10 of an erosion, or 0.
-pub fn erosion_refusal(
-    width: usize,
-    height: usize,
+// Refusals 2 to 7 and 10 of an erosion.
+pub fn check_erosion(
+    input: Input,
     sheet: &[u8],
-    side: usize,
     bytes: &[u8],
     levels: &[u16],
-) -> u32
-    ensures { result ≡ first
-        (erosion_refusals width height sheet.now side bytes.now levels.now) }
+) -> Result<(), Refusal>
+    ensures { number result ≡ first
+        (erosion_refusals input.width input.height sheet.now input.side bytes.now levels.now) }
 {
-    let refusal = start_refusal(width, height, sheet, side, bytes);
-    if refusal != 0 {
-        return refusal;
+    check_start(input, sheet, bytes)?;
+    if levels.len() != input.height * input.width {
+        return Err(Refusal::LevelsLength);
     }
-    if levels.len() != height * width {
-        return 10;
-    }
-    0
+    Ok(())
 }
 
-// Refusals 2 to 10 of a dilation, and of a cropped sheet's erosion, or 0.
-pub fn dilation_refusal(
-    width: usize,
-    height: usize,
+// Refusals 2 to 10 of a dilation, and of a cropped sheet's erosion.
+pub fn check_dilation(
+    input: Input,
     sheet: &[u8],
-    side: usize,
     bytes: &[u8],
     cap: usize,
     levels: &[u16],
-) -> u32
-    ensures { result ≡ first
-        (dilation_refusals width height sheet.now side bytes.now cap levels.now) }
+) -> Result<(), Refusal>
+    ensures { number result ≡ first
+        (dilation_refusals input.width input.height sheet.now input.side bytes.now cap levels.now) }
 {
-    let refusal = start_refusal(width, height, sheet, side, bytes);
-    if refusal != 0 {
-        return refusal;
-    }
+    check_start(input, sheet, bytes)?;
     if basics::HIGHEST_CAP < cap {
-        return 8;
+        return Err(Refusal::Size);
     }
-    canvas_refusal(width, height, cap, side, levels.len())
-}
-
-// A refusal, with the record all zero.
-fn refused(number: u32) -> Started
-    ensures { (result.refusal ≡ number) × (result.run ≡ empty_record) }
-{
-    let run = records::no_record();
-    Started {
-        refusal: number,
-        run: run,
-    }
+    check_canvas(input, cap, levels.len())
 }
 
 // The record of an accepted start, with no rows done.
-fn fresh_record(
-    kind: u8,
-    edge: u8,
-    width: usize,
-    height: usize,
-    cap: usize,
-    side: usize,
-    bytes: &[u8],
-) -> Record
-    requires { (is_side side ≡ true) × (length bytes.now ≡ side * side) }
-    ensures { result ≡ fresh_record kind edge width height cap side bytes.now }
+fn start_record(kind: Kind, input: Input, cap: usize, bytes: &[u8]) -> Record
+    requires { (is_side input.side ≡ true) × (length bytes.now ≡ input.side * input.side) }
+    ensures { result ≡ start_record kind input.width input.height cap input.side bytes.now }
 {
-    let cells = element::flat_cells(element::cells_of(side, bytes));
     Record {
-        kind,
-        width,
-        height,
+        kind: kinds::by_kind(kind, kinds::EROSION, kinds::DILATION, kinds::EROSION),
+        width: input.width,
+        height: input.height,
         cap,
-        side,
+        side: input.side,
         rows: 0,
-        cells,
-        edge,
+        cells: element::flat_cells(element::cells_of(input.side, bytes)),
+        edge: kinds::by_kind(
+            kind,
+            kinds::BACKGROUND,
+            kinds::BACKGROUND,
+            kinds::FOREGROUND,
+        ),
     }
 }
 
 // Public: starts an erosion, its levels 65,535 on the foreground and 0 elsewhere. Refusals 2 to 7, 10.
 pub fn start_erosion(
-    width: usize,
-    height: usize,
+    input: Input,
     sheet: &[u8],
-    side: usize,
     bytes: &[u8],
     levels: &mut [u16],
-) -> Started
-    ensures { StartsErosion width height sheet.now side bytes.now levels.old result.refusal
-        (result.run, levels.new) }
+) -> Result<Record, Refusal>
+    ensures { StartsErosion input.width input.height sheet.now input.side bytes.now levels.old (number result)
+        (value_or empty_record result, levels.new) }
 {
-    let refusal = erosion_refusal(width, height, sheet, side, bytes, levels);
-    if refusal != 0 {
-        return refused(refusal);
-    }
-    let run = fresh_record(
-        kinds::EROSION,
-        kinds::BACKGROUND,
-        width,
-        height,
-        0,
-        side,
-        bytes,
-    );
+    check_erosion(input, sheet, bytes, levels)?;
+    let run = start_record(Kind::Eroding, input, 0, bytes);
     fill_levels(run, sheet, levels);
-    Started { refusal: 0, run }
+    Ok(run)
 }
 
-// A start on the canvas of a cap, with a kind and an edge rule: a dilation's, and a cropped sheet's. Refusals 2 to 10.
+// A start on the canvas of a cap: a dilation's, and a cropped sheet's. Refusals 2 to 10.
 pub fn start_on_canvas(
-    kind: u8,
-    edge: u8,
-    width: usize,
-    height: usize,
+    kind: Kind,
+    input: Input,
     sheet: &[u8],
-    side: usize,
     bytes: &[u8],
     cap: usize,
     levels: &mut [u16],
-) -> Started
+) -> Result<Record, Refusal>
     ensures { Answers
-        (dilation_refusals width height sheet.now side bytes.now cap levels.old)
+        (dilation_refusals input.width input.height sheet.now input.side bytes.now cap levels.old)
         (empty_record, levels.old)
-        (λ after. after ≡ begun (fresh_record kind edge width height cap side bytes.now) sheet.now)
-        result.refusal (result.run, levels.new) }
+        (λ after. after ≡ begun (start_record kind input.width input.height cap input.side bytes.now) sheet.now)
+        (number result) (value_or empty_record result, levels.new) }
 {
-    let refusal = dilation_refusal(width, height, sheet, side, bytes, cap, levels);
-    if refusal != 0 {
-        return refused(refusal);
-    }
-    let run = fresh_record(kind, edge, width, height, cap, side, bytes);
+    check_dilation(input, sheet, bytes, cap, levels)?;
+    let run = start_record(kind, input, cap, bytes);
     fill_levels(run, sheet, levels);
-    Started { refusal: 0, run }
+    Ok(run)
 }
 
 // Public: starts a dilation on the canvas, its levels 1 on the foreground and 65,535 elsewhere. Refusals 2 to 10.
 pub fn start_dilation(
-    width: usize,
-    height: usize,
+    input: Input,
     sheet: &[u8],
-    side: usize,
     bytes: &[u8],
     cap: usize,
     levels: &mut [u16],
-) -> Started
-    ensures { StartsDilation width height sheet.now side bytes.now cap levels.old
-        result.refusal (result.run, levels.new) }
+) -> Result<Record, Refusal>
+    ensures { StartsDilation input.width input.height sheet.now input.side bytes.now cap levels.old
+        (number result) (value_or empty_record result, levels.new) }
 {
-    start_on_canvas(
-        kinds::DILATION,
-        kinds::BACKGROUND,
-        width,
-        height,
-        sheet,
-        side,
-        bytes,
-        cap,
-        levels,
-    )
+    start_on_canvas(Kind::Dilating, input, sheet, bytes, cap, levels)
 }
 
 // Public: starts the erosion of a cropped sheet, with foreground beyond the frame, its levels 1 on the frame's background and 65,535
 // elsewhere on the canvas. Refusals 2 to 10.
 pub fn start_cropped(
-    width: usize,
-    height: usize,
+    input: Input,
     sheet: &[u8],
-    side: usize,
     bytes: &[u8],
     cap: usize,
     levels: &mut [u16],
-) -> Started
-    ensures { StartsCropped width height sheet.now side bytes.now cap levels.old
-        result.refusal (result.run, levels.new) }
+) -> Result<Record, Refusal>
+    ensures { StartsCropped input.width input.height sheet.now input.side bytes.now cap levels.old
+        (number result) (value_or empty_record result, levels.new) }
 {
-    start_on_canvas(
-        kinds::EROSION,
-        kinds::FOREGROUND,
-        width,
-        height,
-        sheet,
-        side,
-        bytes,
-        cap,
-        levels,
-    )
+    start_on_canvas(Kind::Cropping, input, sheet, bytes, cap, levels)
 }

@@ -21,7 +21,7 @@ use Rattle.element.proofs.Accepted.{accepted_origin, accepted_other}
 use Rattle.sheet.specs.Sheets.{pixel}
 use Rattle.run.specs.declared.Record.{Record}
 use Rattle.run.proofs.RecordLaws.{area_small}
-use Rattle.filters.specs.declared.Input.{Input}
+use Rattle.run.specs.declared.Input.{Input}
 use Rattle.filters.specs.Filters.{Buffers, foreground_of, element_of}
 use Rattle.filters.specs.Back.{Ready}
 use Rattle.filters.specs.declared.judging.Plan.{Plan}

@@ -32,7 +32,7 @@ use Rattle.element.proofs.Accepted.{accepted_origin, accepted_other}
 use Rattle.sheet.specs.Sheets.{pixel, packed, byte_packed, is_side_out}
 use Rattle.sheet.specs.SamePixels.{SamePixels}
 use Rattle.sheet.proofs.SamePixelsLaws.{same_set}
-use Rattle.filters.specs.declared.Input.{Input}
+use Rattle.run.specs.declared.Input.{Input}
 use Rattle.filters.specs.Filters.{Buffers, Cleared, OpeningLevels, frame_size, foreground_of, element_of}
 use Rattle.filters.specs.StarredFilters.{Fits, left}
 use Rattle.filters.proofs.Refusing.{answers_carried}

@@ -10,7 +10,7 @@ use borrow.Author.Tests.{eq-eqb, ne_eqb, eqb-true, not-false}
 use Rattle.basics.specs.Refusals.{Refusal, first}
 use Rattle.basics.proofs.RefusalLaws.{judged_first, judged_next, first_both, passed}
 use Rattle.run.proofs.Starts.{Judged, judged}
-use Rattle.filters.specs.declared.Input.{Input}
+use Rattle.run.specs.declared.Input.{Input}
 use Rattle.filters.specs.declared.judging.Plan.{Plan}
 use Rattle.filters.specs.Plans.{work_refusals}
 use Rattle.filters.proofs.Refusing.{opening_list, start_taken, WorkTaken, work_taken}

@@ -6,7 +6,7 @@ use Rattle.basics.specs.Tables.{table}
 use Rattle.grid.specs.Points.{at}
 use Rattle.grid.specs.Levels.{IsOpeningLevel}
 use Rattle.run.specs.declared.Record.{Record}
-use Rattle.filters.specs.declared.Input.{Input}
+use Rattle.run.specs.declared.Input.{Input}
 use Rattle.filters.specs.declared.judging.Plan.{Plan}
 use Rattle.filters.specs.Filters.{foreground_of, element_of}
 use Rattle.filters.specs.Plans.{FirstRun}

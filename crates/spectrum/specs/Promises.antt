@@ -7,7 +7,7 @@ use Rattle.basics.specs.Tables.{raster}
 use Rattle.grid.specs.Starred.{drawn, one_row, pair}
 use Rattle.sheet.specs.Sheets.{pixel, packed}
 use Rattle.sheet.specs.SamePixels.{SamePixels}
-use Rattle.filters.specs.declared.Input.{Input}
+use Rattle.run.specs.declared.Input.{Input}
 use Rattle.filters.specs.Filters.{Buffers, OpeningLevels, frame_size}
 use Rattle.filters.specs.StarredFilters.{Fits}
 use Rattle.spectrum.specs.declared.Summary.{Summary}

@@ -9,7 +9,7 @@ use Rattle.grid.specs.Points.{at}
 use Rattle.grid.specs.Sets.{PointSet}
 use Rattle.grid.specs.Levels.{IsOpeningLevel}
 use Rattle.sheet.specs.Sheets.{pixel}
-use Rattle.filters.specs.declared.Input.{Input}
+use Rattle.run.specs.declared.Input.{Input}
 use Rattle.filters.specs.Filters.{Buffers, Cleared, foreground_of, element_of, input_refusals, frame_size}
 use Rattle.spectrum.specs.declared.Summary.{Summary}
 

@@ -2,7 +2,7 @@
 use Rattle.basics.proofs.Arithmetic.{entry_below}
 use Rattle.run.proofs.PatchLaws.{row_end}
 use Rattle.run.proofs.RecordLaws.{area_small}
-use Rattle.filters.specs.declared.Input.{Input}
+use Rattle.run.specs.declared.Input.{Input}
 use Rattle.sheet.specs.Sheets.{row_bytes}
 use Rattle.maps.specs.Raising.{Fits}
 use Rattle.maps.proofs.SeenLaws.{seen_above}

@@ -1,6 +1,6 @@
 -- With a slice of another length the call is only judged, and 11 is left at the latest; else the library answers.
 use Rattle.harness.proofs.FractionAnswers.{fractions_other, fractions_refused, fractions_given}
-use Rattle.filters.specs.declared.Input.{Input}
+use Rattle.run.specs.declared.Input.{Input}
 use Rattle.filters.specs.Filters.{Buffers}
 use lib.Seq.{lt-length-sets}
 use native.Mathlib.Omega.{arith}

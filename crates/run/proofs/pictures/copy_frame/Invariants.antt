@@ -1,12 +1,7 @@
 -- The loop's invariant: the rows above are copied.
-use Rattle.run.proofs.PatchLaws.{Rows}
+use Rattle.run.proofs.PartLaws.{RowsFilled}
 use Rattle.run.proofs.PictureLaws.{copied_level}
-use Prim.Native.Nat.{◌-◌, ◌≤◌}
 use Rattle.run.proofs.pictures.copy_frame.Given as goal
 
 abbrev pub invariant-loop-row : goal.invariant-loop-row
-invariant-loop-row l =
-    (l.row ≤ l.height) × Rows l.width (copied_level l.width l.margin l.levels l.reading) l.row l.initial.out l.out
-
-abbrev pub decreases-loop-row : goal.decreases-loop-row
-decreases-loop-row l = l.height - l.row
+invariant-loop-row l = RowsFilled l.frame.width l.frame.height (copied_level l.frame l.levels l.reading) l.row l.out

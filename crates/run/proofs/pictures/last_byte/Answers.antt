@@ -1,11 +1,10 @@
--- The levels that are left stand before zeros, which no bounds hold.
 use Rattle.run.proofs.PackLaws.{last_of}
-use mathlib.Core.Path.{refl}
+use mathlib.Core.List.{◌++◌}
+use mathlib.Core.Path.{ap₂}
+use Rattle.std.proofs.lemmas.List.{drop-replicate}
 use Rattle.run.proofs.pictures.last_byte.Goals as goal
 
 pub returns : goal.returns
 returns c =
-    let args = c.args in
-    let copy_row = c.copy_row in
-    last_of args.low args.high args.levels.now args.from args.width copy_row.ensures
-    refl c.full_byte.ensures
+    last_of c.args.bounds.low c.args.bounds.high c.args.levels.now _
+    (ap₂ (λ a b. a ++ b) c.copy_from_slice.ensures.after (drop-replicate _ 8 0)) c.full_byte.ensures

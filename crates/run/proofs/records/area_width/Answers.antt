@@ -1,21 +1,18 @@
--- A sound record's area is small.
-use Rattle.run.specs.Records.{canvas_side}
+-- A sound record has a small area.
 use Rattle.run.proofs.RecordLaws.{sound}
 use native.Mathlib.Omega.{arith}
-use mathlib.Core.Path.{ap}
+use mathlib.Core.Path.{refl}
 use Rattle.run.proofs.records.area_width.Goals as goal
 
-pub margin_of-margin-requires : goal.margin_of-margin-requires
-margin_of-margin-requires c = let s = sound c.args.run c.requires in (s.side_is, s.cap_small)
+pub frame_of-requires : goal.frame_of-requires
+frame_of-requires c = let s = sound c.args.run c.requires in (s.side_is, s.cap_small)
 
-pub overflow_add-result-2 : goal.overflow_add-result-2
-overflow_add-result-2 c = let s = sound c.args.run c.requires in let h = s.wide in omega arith
+pub area_width-requires : goal.area_width-requires
+area_width-requires c = let small = (sound c.args.run c.requires).area_wide in rw c.frame_of.ensures.0 (omega arith)
 
 pub returns : goal.returns
 returns c =
     let s = sound c.args.run c.requires in
-    let h = s.wide in
-    let a = s.area_wide in
-    let m = c.margin_of-margin.ensures.0 in
-    let e = ap (canvas_side c.args.run.width) m in
-    (e, (omega arith, omega arith))
+    let some = s.wide in
+    let small = s.area_wide in
+    rw (c.area_width.ensures, c.frame_of.ensures.0) (refl, (omega arith, omega arith))

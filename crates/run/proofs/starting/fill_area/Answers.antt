@@ -1,28 +1,23 @@
-use Rattle.run.proofs.PatchLaws.{rows_none, rows_turn, canvas_after}
+use Rattle.run.proofs.PartLaws.{rows_start, rows_inside, rows_room, rows_turn}
 use Rattle.run.proofs.StartLaws.{start_raster}
 use native.Mathlib.Omega.{arith}
+use mathlib.Core.Path.{◌∙◌}
 use Rattle.run.proofs.starting.fill_area.Goals as goal
 
 pub loop-row-init : goal.loop-row-init
-loop-row-init c = (omega arith, rows_none)
+loop-row-init c = rows_start c.requires.0.room
+
+pub slice_bounds-fill_row-end : goal.slice_bounds-fill_row-end
+slice_bounds-fill_row-end c =
+    rows_inside c.loop-row.invariant c.area_width-side.ensures (rw c.area_height-row-end.ensures at c.loop-row-test.true)
 
 pub fill_row-requires : goal.fill_row-requires
 fill_row-requires c =
-    (canvas_after c.requires.0 c.loop-row.invariant.1.filled.size, (c.requires.1, omega arith))
-
-pub loop-row-smaller : goal.loop-row-smaller
-loop-row-smaller c = omega arith
+    let side = c.area_width-side.ensures in
+    (rows_room c.loop-row.invariant side (rw c.area_height-row-end.ensures at c.loop-row-test.true) ∙ side, (c.requires.0.wide, (c.requires.0.high, (c.requires.1, rw c.area_height-row-end.ensures at c.loop-row-test.true))))
 
 pub loop-row-preserved : goal.loop-row-preserved
-loop-row-preserved c = (
-  omega arith,
-  rows_turn c.loop-row.invariant.1 c.fill_row.ensures,
-)
-
-pub shape_of-levels : goal.shape_of-levels
-shape_of-levels c = c.loop-row.invariant.1.filled.size
+loop-row-preserved c = rows_turn c.loop-row.invariant c.area_width-side.ensures (rw c.area_height-row-end.ensures at c.loop-row-test.true) c.fill_row.ensures
 
 pub returns : goal.returns
-returns c =
-    start_raster c.args.on c.args.off c.args.outside c.args.sheet.now c.requires.0
-    c.loop-row.invariant.1 (omega arith)
+returns c = start_raster c.args.starts.on c.args.starts.off c.args.starts.outside c.args.sheet.now c.args.frame c.loop-row.invariant (let h = c.area_height-row-end.ensures in omega arith)

@@ -1,80 +1,31 @@
--- Off the frame the whole row is off; else its three stretches follow one another. Every place is small, because the row is in
--- the levels.
-use Rattle.run.proofs.PatchLaws.{patch_as, row_room}
-use Rattle.run.proofs.StartLaws.{row_bytes_lem, row_above, row_below, row_parts}
+-- Off the frame the whole row is outside; else its three parts follow one another.
+use Rattle.run.proofs.PartLaws.{replicate_is}
+use Rattle.run.proofs.StartLaws.{row_above, row_below, row_parts}
 use native.Mathlib.Omega.{arith}
+use lib.ListN.{replicate}
+use mathlib.Core.Path.{refl, ap, ◌∙◌}
 use Rattle.run.proofs.starting.fill_row.Goals as goal
+use Rattle.run.proofs.starting.fill_row.Goals.{then-row-frame-via-then-row-frame, then-row-frame-via-else-row-frame+then-frame-row}
 
-pub overflow_mul-at : goal.overflow_mul-at
-overflow_mul-at c =
-    let s = row_room c.requires.0 c.args.row c.requires.1.1 in omega arith
-
-pub fill_level-requires : goal.fill_level-requires
-fill_level-requires c =
-    let s = row_room c.requires.0 c.args.row c.requires.1.1 in omega arith
-
-pub returns-then-row-margin : goal.returns-then-row-margin
-returns-then-row-margin c =
+pub returns-then-row-frame : goal.returns-then-row-frame
+returns-then-row-frame c =
     let args = c.args in
-    let if1 = c.if-row-margin in
-    patch_as c.fill_level.ensures _
-    (λ col _. row_above args.width args.height args.margin args.sheet.now args.on args.off args.outside args.row
-    if1.true col)
-
-pub fill_level-requires-then-margin-height : goal.fill_level-requires-then-margin-height
-fill_level-requires-then-margin-height c =
-    let s = row_room c.requires.0 c.args.row c.requires.1.1 in omega arith
-
-pub returns-then-margin-height : goal.returns-then-margin-height
-returns-then-margin-height c =
-    let args = c.args in
-    let if2 = c.if-margin-height in
-    patch_as c.fill_level-then-margin-height.ensures _
-    (λ col _. row_below args.width args.height args.margin args.sheet.now args.on args.off args.outside args.row
-    if2.true col)
-
-pub fill_level-requires-2 : goal.fill_level-requires-2
-fill_level-requires-2 c =
-    let s = row_room c.requires.0 c.args.row c.requires.1.1 in omega arith
-
-pub overflow_add-at : goal.overflow_add-at
-overflow_add-at c =
-    let s = row_room c.requires.0 c.args.row c.requires.1.1 in omega arith
-
-pub fill_pixels-requires : goal.fill_pixels-requires
-fill_pixels-requires c =
-    let pre = c.requires in
-    let args = c.args in
-    let if1 = c.if-row-margin in
-    let if2 = c.if-margin-height in
-    let s = row_room pre.0 args.row pre.1.1 in
-    let w = pre.0.wide in
-    let h = pre.0.high in (
-      omega arith,
-      (
-        omega arith,
-        (omega arith, rw pre.1.0 (row_bytes_lem args.width args.height args.margin args.row if1.false if2.false)),
-      ),
-    )
-
-pub overflow_add-at-2 : goal.overflow_add-at-2
-overflow_add-at-2 c =
-    let s = row_room c.requires.0 c.args.row c.requires.1.1 in omega arith
-
-pub overflow_add-at-3 : goal.overflow_add-at-3
-overflow_add-at-3 c =
-    let s = row_room c.requires.0 c.args.row c.requires.1.1 in omega arith
-
-pub fill_level-requires-3 : goal.fill_level-requires-3
-fill_level-requires-3 c =
-    let s = row_room c.requires.0 c.args.row c.requires.1.1 in omega arith
+    let frame = args.frame in
+    let starts = args.starts in
+    c.fill.ensures.after (λ y e. e)
+    ∙ ap (λ n. replicate n starts.outside) c.requires.0
+    ∙ replicate_is _ starts.outside _ (λ col _. elim c.then-row-frame.branch [
+      | then-row-frame-via-then-row-frame w ↦
+          row_above frame.width frame.height frame.margin args.sheet.now starts.on starts.off starts.outside args.row
+          w.if-row-frame.true col
+      | then-row-frame-via-else-row-frame+then-frame-row w ↦
+          row_below frame.width frame.height frame.margin args.sheet.now starts.on starts.off starts.outside args.row
+          w.if-frame-row.true col
+    ])
 
 pub returns : goal.returns
 returns c =
     let args = c.args in
-    let if1 = c.if-row-margin in
-    let if2 = c.if-margin-height in
-    let fill_level3 = c.fill_level-2 in
-    let fill_pixels = c.fill_pixels in
-    row_parts args.width args.height args.margin args.sheet.now args.on args.off args.outside args.row if1.false
-    if2.false fill_level3.ensures fill_pixels.ensures c.fill_level-3.ensures
+    row_parts args.frame.width args.frame.height args.frame.margin args.sheet.now args.starts.on args.starts.off
+    args.starts.outside args.row c.if-row-frame.false (omega arith) args.levels.now c.requires.0 (c.fill-2.ensures.after (λ y e. e))
+    refl c.fill_pixels.ensures (c.fill-3.ensures.after (λ y e. e))
