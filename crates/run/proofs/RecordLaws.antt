@@ -256,5 +256,11 @@ pub not_bad : (r : Record) → record_bad r ≡ false → (foreign r ≡ false) 
 unfolding record_bad
 not_bad r e = let f = neither (foreign r) (ltb (due r) r.rows) e in (f.0, ltb-false (due r) r.rows f.1)
 
+pub not_foreign : (r : Record) → record_bad r ≡ false → foreign r ≡ false
+not_foreign r e = (not_bad r e).0
+
+pub rows_within : (r : Record) → record_bad r ≡ false → r.rows ≤ due r
+rows_within r e = (not_bad r e).1
+
 pub area_small : (height width : ℕ) → height ≤ 4096 → width ≤ 4096 → height * width ≤ 4096 * 4096
 area_small height width a b = mul-le-mul a b

@@ -18,6 +18,7 @@ pub struct Continued {
 }
 
 // Refusals 1, 10 and 12 of a continue.
+#[tactic(auto, using(crate::proofs::RecordLaws::not_foreign))]
 pub fn check_continue(run: Record, levels: &[u16], allowance: usize) -> Result<(), Refusal>
     ensures { number result ≡ first (continue_refusals run levels.now allowance) }
 {
@@ -51,6 +52,7 @@ fn work_rows(run: Record, levels: &mut [u16], count: usize) -> usize
 }
 
 // Public: works the allowance or what is due, the lesser. Refusals 1, 10, 12.
+#[tactic(auto, using(crate::proofs::RecordLaws::not_foreign, crate::proofs::RecordLaws::rows_within))]
 pub fn continue_run(run: Record, levels: &mut [u16], allowance: usize) -> Result<Continued, Refusal>
     ensures { Continues run levels.old allowance (number result) (answer_of result levels.new) }
 {

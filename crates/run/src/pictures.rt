@@ -41,6 +41,7 @@ fn copy_frame(levels: &[u16], frame: Frame, reading: Reading, out: &mut [u16])
 }
 
 // Refusals 8, 10 and 11 of a sound record's levels read at a size, with `room` entries lent of `wanted`.
+#[tactic(auto, using(crate::proofs::RecordLaws::not_foreign))]
 fn check_view(
     run: Record,
     levels: &[u16],
@@ -159,6 +160,7 @@ pub fn pack_held(run: Record, levels: &[u16], size: usize, out: &mut [u8])
 }
 
 // Public: fills `out` with the packed sheet that a finished run holds at a size. Refusals 1, 8, 10, 11, 13.
+#[tactic(auto, using(crate::proofs::RecordLaws::not_foreign))]
 pub fn threshold(run: Record, levels: &[u16], size: usize, out: &mut [u8]) -> Result<(), Refusal>
     ensures { Thresholds run levels.now size out.old (number result) out.new }
 {
