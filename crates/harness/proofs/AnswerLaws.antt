@@ -148,6 +148,11 @@ module _ (L : List Refusal) (t : T (numbered L)) (short : Bool) where
         go (no q) = e ∙ first_refused L ((11, other) ∷ []) q ∙ sym (first_refused L ((11, short) ∷ (11, true) ∷ []) q)
 
 -- answers stored
+pub one_stored : (answer : List ℕ) (a : ℕ) → length answer ≡ 1 → set answer 0 a ≡ a ∷ []
+one_stored [] a e = absurd (omega arith)
+one_stored (x ∷ []) a e = refl
+one_stored (x ∷ y ∷ rest) a e = absurd (omega arith)
+
 pub two_stored : {A : Type 0} (answer : List A) (a b : A) → length answer ≡ 2 → set (set answer 0 a) 1 b ≡ a ∷ b ∷ []
 two_stored [] a b e = absurd (omega arith)
 two_stored (x ∷ []) a b e = absurd (omega arith)

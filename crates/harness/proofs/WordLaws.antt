@@ -5,8 +5,9 @@ use native.Mathlib.Decide.{ℕ_discrete}
 use native.Mathlib.Nat.{le_of_eq}
 use native.Mathlib.Numerals.{add-one}
 use native.Mathlib.Omega.{arith}
-use mathlib.Core.Path.{◌≡◌, sym, ap, ap₂, ◌∙◌}
-use mathlib.Core.Bool.{Bool, true, false, not, ◌||◌}
+use Rattle.std.specs.Prelude.{Option, None, Some}
+use mathlib.Core.Path.{◌≡◌, refl, sym, ap, ap₂, ◌∙◌}
+use mathlib.Core.Bool.{Bool, true, false, not, cond, ◌||◌}
 use mathlib.Core.Logic.{◌≢◌}
 use mathlib.Core.List.{List, [], ◌∷◌, ◌++◌}
 use lib.Dec.{eqb, ltb}
@@ -60,6 +61,17 @@ module _ (words : List ℕ) where
     record_cells_lem = table_is (λ k. get_or words (record_numbers + k) 0) record_cells 0 (take record_cells (drop record_numbers words))
         (length-take-le record_cells (drop record_numbers words) (let s = bytes_length in omega arith))
         (λ k l. get_or-take record_cells (drop record_numbers words) k 0 l ∙ get_or-drop record_numbers words k 0)
+
+-- what is read of words that hold a record
+pub record_read : (words : List ℕ) (run : Record)
+    → ◌≡◌ {A = Option Record} (Some run) (cond (holds_no_record words) None (Some (record_of words)))
+    → (holds_no_record words ≡ false) × (run ≡ record_of words)
+record_read words run e = go (holds_no_record words) e
+  where
+    go : (none : Bool) → ◌≡◌ {A = Option Record} (Some run) (cond none None (Some (record_of words)))
+        → (none ≡ false) × (run ≡ record_of words)
+    go true e = absurd (cc)
+    go false e = (refl, cc)
 
 -- A SOUND RECORD IS HELD: the words of a record that the library takes are never refused for themselves
 narrow : (cells : List ℕ) (edge : ℕ) → any_above 1 cells ≡ false → edge ≤ highest_byte
