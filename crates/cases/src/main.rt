@@ -8,6 +8,7 @@ mod asking;
 mod calls;
 mod counts;
 mod crops;
+mod elements;
 mod lines;
 mod lists;
 mod padding;

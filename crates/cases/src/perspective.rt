@@ -1,10 +1,8 @@
 // The worked example of dilating by a map: of a row of seven, points 1 and 5 by sizes 0 and 1, with the origin and its right
 // neighbour. Printed is the byte of the answer, 70 for points 1, 5 and 6.
-use super::lines;
+use super::elements::PAIR;
 use filters::Input;
 use std::io;
-
-const PAIR: [u8; 9] = [0, 0, 0, 0, 1, 1, 0, 0, 0];
 
 // The byte that a row's byte gives, with a size at the background points.
 fn dilated(row: u8, elsewhere: u16) -> u8 {
@@ -23,10 +21,9 @@ fn dilated(row: u8, elsewhere: u16) -> u8 {
 
 // The same byte with the padding bit unset and set, and with small and large sizes at the background points.
 pub fn say_perspective(rt: &impl Print) -> io::Result<()> {
-    lines::say(rt, b"two points, sizes 0 and 1", dilated(68, 0) as u32)?;
-    lines::say(
-        rt,
-        b"two points, padding bit set, 65535 elsewhere",
-        dilated(69, 65535) as u32,
+    println!(rt; "two points, sizes 0 and 1: {}", dilated(68, 0))?;
+    println!(rt;
+        "two points, padding bit set, 65535 elsewhere: {}",
+        dilated(69, 65535)
     )
 }
