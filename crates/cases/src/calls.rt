@@ -1,9 +1,10 @@
 // The call of a case, with what is lent to it.
 use super::asking::{Call, Case};
 use super::records;
-use filters::Input;
+use basics::Refusal;
+use run::{Input, starting};
 
-// The number that the call of a case answers. For a dilation by a map, the second levels are the map.
+// Whether the call of a case is accepted. For a dilation by a map, the second levels are the map.
 pub fn answer(
     case: Case,
     file: &[u8],
@@ -14,7 +15,7 @@ pub fn answer(
     levels: &mut [u16],
     table: &mut [u64],
     out: &mut [u8],
-) -> u32 {
+) -> Result<(), Refusal> {
     let Case {
         width,
         height,
@@ -27,25 +28,21 @@ pub fn answer(
         height,
         side,
     };
-    let record = records::record_of(case.run);
+    let record = records::record_of(case.run)?;
     match case.call {
-        Call::StartErosion => {
-            run::starting::start_erosion(width, height, sheet, side, cells, first).refusal
-        }
+        Call::StartErosion => starting::start_erosion(input, sheet, cells, first).map(drop),
         Call::StartDilation => {
-            run::starting::start_dilation(width, height, sheet, side, cells, number, first).refusal
+            starting::start_dilation(input, sheet, cells, number, first).map(drop)
         }
-        Call::StartCropped => {
-            run::starting::start_cropped(width, height, sheet, side, cells, number, first).refusal
-        }
-        Call::ContinueRun => run::continuing::continue_run(record, first, number).refusal,
+        Call::StartCropped => starting::start_cropped(input, sheet, cells, number, first).map(drop),
+        Call::ContinueRun => run::continuing::continue_run(record, first, number).map(drop),
         Call::Collect => run::pictures::collect(record, first, levels),
         Call::Threshold => run::pictures::threshold(record, first, number, out),
-        Call::Provisional => run::provisional::provisional(record, first, number, out).refusal,
-        Call::WritePgm => pgm::finished::write_pgm(record, first, out).refusal,
+        Call::Provisional => run::provisional::provisional(record, first, number, out).map(drop),
+        Call::WritePgm => pgm::finished::write_pgm(record, first, out).map(drop),
         Call::Reflect => element::reflect(side, cells, out),
-        Call::ReadPbm => pbm::read_pbm(file, out).refusal,
-        Call::WritePbm => pbm::write_pbm(width, height, sheet, out).refusal,
+        Call::ReadPbm => pbm::read_pbm(file, out).map(drop),
+        Call::WritePbm => pbm::write_pbm(width, height, sheet, out).map(drop),
         Call::Open => filters::open(input, sheet, cells, number, first, second, out),
         Call::Close => filters::close(input, sheet, cells, number, first, second, out),
         Call::OpeningLevels => filters::opening_levels(input, sheet, cells, first, second, levels),
@@ -53,6 +50,6 @@ pub fn answer(
             filters::closing_levels(input, sheet, cells, number, first, second, levels)
         }
         Call::DilateByMap => maps::dilate_by_map(input, sheet, cells, number, second, first, out),
-        Call::Spectrum => { spectrum::spectrum(input, sheet, cells, first, second, table).refusal }
+        Call::Spectrum => spectrum::spectrum(input, sheet, cells, first, second, table).map(drop),
     }
 }

@@ -5,7 +5,8 @@ ghost use Rattle.std.specs.Prelude.{◌≤◌, ◌-◌, length};
 
 use super::asking::{Call, Case};
 use super::{lines, rooms};
-use std::io;
+use anyhow::Result;
+use basics::Refusal;
 
 // What is printed for a line that is no case.
 const NO_CASE: u32 = 99;
@@ -66,15 +67,16 @@ fn file_of(text: &[u8]) -> [u8; FILE] {
     file
 }
 
-// The number that a line's call answers.
+// The number that a line's call answers, 0 where it is accepted.
 fn number_for(call: &[u8], words: &[u8], text: &[u8]) -> Option<u32> {
     let accepted = Case::accepted(Call::from_name(call)?);
     let case = asked(accepted, words)?;
     let file = file_of(text);
-    rooms::answer(case, file.get(..text.len())?)
+    let answer = rooms::answer(case, file.get(..text.len())?)?;
+    Some(answer.err().map_or(0, Refusal::number))
 }
 
-fn answer_line(rt: &impl Print, line: &[u8]) -> io::Result<()> {
+fn answer_line(rt: &impl Print, line: &[u8]) -> Result<()> {
     if line.is_empty() || line.starts_with(b"#") {
         return Ok(());
     }
@@ -86,7 +88,7 @@ fn answer_line(rt: &impl Print, line: &[u8]) -> io::Result<()> {
     lines::say(rt, &line[..colon], number)
 }
 
-pub fn answer_all(rt: &impl Print, text: &[u8]) -> io::Result<()> {
+pub fn answer_all(rt: &impl Print, text: &[u8]) -> Result<()> {
     for line in text.split(|byte| *byte == b'\n') {
         answer_line(rt, line)?;
     }

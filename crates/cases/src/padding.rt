@@ -3,10 +3,11 @@
 ghost use Rattle.std.specs.Prelude.{◌≤◌};
 
 use super::asking::{Call, Case};
-use super::elements::CROSS;
+use super::elements::{self, CROSS};
 use super::{calls, lines};
+use anyhow::Result;
+use basics::Refusal;
 use run::Record;
-use std::io;
 
 const FRAME: usize = 27;
 
@@ -25,16 +26,20 @@ struct Left {
 }
 
 // Continues a run over all its rows: its levels collected, and the sheet that it holds at 1.
-fn run_through(started: Record, work: &mut [u16], out: &mut [u16], bytes: &mut [u8]) -> Record {
-    let continued = run::continuing::continue_run(started, work, basics::MOST_ROWS);
-    let done = continued.run;
-    let _collected = run::pictures::collect(done, work, out);
-    let _held = run::pictures::threshold(done, work, 1, bytes);
-    done
+fn run_through(
+    started: Record,
+    work: &mut [u16],
+    out: &mut [u16],
+    bytes: &mut [u8],
+) -> Result<Record, Refusal> {
+    let done = run::continuing::continue_run(started, work, basics::MOST_ROWS)?.run;
+    run::pictures::collect(done, work, out)?;
+    run::pictures::threshold(done, work, 1, bytes)?;
+    Ok(done)
 }
 
 // The call on a sheet, with `work` levels to work with and room for `room` bytes.
-fn left_by(call: Call, sheet: &[u8], work: usize, room: usize) -> Left
+fn left_by(call: Call, sheet: &[u8], work: usize, room: usize) -> Result<Left, Refusal>
     requires { (work ≤ 55) × (room ≤ 13) }
 {
     let mut first_room = [0; CANVAS];
@@ -46,16 +51,33 @@ fn left_by(call: Call, sheet: &[u8], work: usize, room: usize) -> Left
     let out = &mut bytes[..room];
     match call {
         Call::StartErosion => {
-            let started = run::starting::start_erosion(9, 3, sheet, 3, &CROSS, first);
-            run_through(started.run, first, &mut levels, out);
+            let started = run::starting::start_erosion(
+                elements::input_on(9, 3),
+                sheet,
+                &CROSS,
+                first,
+            )?;
+            run_through(started, first, &mut levels, out)?;
         }
         Call::StartDilation => {
-            let started = run::starting::start_dilation(9, 3, sheet, 3, &CROSS, 1, first);
-            run_through(started.run, first, &mut levels, out);
+            let started = run::starting::start_dilation(
+                elements::input_on(9, 3),
+                sheet,
+                &CROSS,
+                1,
+                first,
+            )?;
+            run_through(started, first, &mut levels, out)?;
         }
         Call::StartCropped => {
-            let started = run::starting::start_cropped(9, 3, sheet, 3, &CROSS, 1, first);
-            run_through(started.run, first, &mut levels, out);
+            let started = run::starting::start_cropped(
+                elements::input_on(9, 3),
+                sheet,
+                &CROSS,
+                1,
+                first,
+            )?;
+            run_through(started, first, &mut levels, out)?;
         }
         _ => {
             let mut case = Case::accepted(call);
@@ -70,48 +92,53 @@ fn left_by(call: Call, sheet: &[u8], work: usize, room: usize) -> Left
                 &mut levels,
                 &mut [0],
                 out,
-            );
+            )?;
         }
     }
-    Left { levels, bytes }
+    Ok(Left { levels, bytes })
 }
 
 // Compares what a call leaves of the sheet with its padding bits unset and set.
-fn compare(rt: &impl Print, name: &str, call: Call, work: usize, room: usize) -> io::Result<()>
+fn compare(rt: &impl Print, name: &str, call: Call, work: usize, room: usize) -> Result<()>
     requires { (work ≤ 55) × (room ≤ 13) }
 {
     let unset = [255u8, 128, 255, 128, 255, 128];
     let set = [255u8; SHEET];
-    let same = left_by(call, &unset, work, room) == left_by(call, &set, work, room);
+    let same = left_by(call, &unset, work, room)? == left_by(call, &set, work, room)?;
     lines::say_same(rt, name, same)
 }
 
-fn read(file: &[u8]) -> [u8; SHEET] {
-    let mut out = [0u8; SHEET];
-    let _found = pbm::read_pbm(file, &mut out);
-    out
+fn read(file: &[u8]) -> Result<[u8; SHEET], Refusal> {
+    let mut out = [0; SHEET];
+    pbm::read_pbm(file, &mut out)?;
+    Ok(out)
 }
 
-fn compare_read(rt: &impl Print) -> io::Result<()> {
-    let one = read(b"P4\n9 3\n\xff\x80\xff\x80\xff\x80");
-    let other = read(b"P4\n9 3\n\xff\xff\xff\xff\xff\xff");
+fn compare_read(rt: &impl Print) -> Result<()> {
+    let one = read(b"P4\n9 3\n\xff\x80\xff\x80\xff\x80")?;
+    let other = read(b"P4\n9 3\n\xff\xff\xff\xff\xff\xff")?;
     lines::say_same(rt, "read_pbm", one == other)
 }
 
 // The picture of the erosion of the sheet with its padding bits set.
-fn show_levels(rt: &impl Print) -> io::Result<()> {
-    let sheet = [255u8; SHEET];
-    let mut work = [0u16; FRAME];
-    let mut levels = [0u16; FRAME];
-    let mut bytes = [0u8; SHEET];
-    let started = run::starting::start_erosion(9, 3, &sheet, 3, &CROSS, &mut work);
-    let done = run_through(started.run, &mut work, &mut levels, &mut bytes);
-    let mut text = [0u8; 128];
-    let written = pgm::finished::write_pgm(done, &levels, &mut text);
-    lines::say_text(rt, &text, written.length)
+fn show_levels(rt: &impl Print) -> Result<()> {
+    let sheet = [255; SHEET];
+    let mut work = [0; FRAME];
+    let mut levels = [0; FRAME];
+    let mut bytes = [0; SHEET];
+    let started = run::starting::start_erosion(
+        elements::input_on(9, 3),
+        &sheet,
+        &CROSS,
+        &mut work,
+    )?;
+    let done = run_through(started, &mut work, &mut levels, &mut bytes)?;
+    let mut text = [0; 128];
+    let length = pgm::finished::write_pgm(done, &levels, &mut text)?;
+    lines::say_text(rt, &text, length)
 }
 
-pub fn same_answers(rt: &impl Print) -> io::Result<()> {
+pub fn same_answers(rt: &impl Print) -> Result<()> {
     show_levels(rt)?;
     compare(rt, "erosion levels", Call::StartErosion, FRAME, SHEET)?;
     compare(rt, "erosion by 1", Call::StartErosion, FRAME, SHEET)?;

@@ -1,6 +1,7 @@
 // The rooms that a case lends parts of.
 use super::asking::Case;
 use super::calls;
+use basics::Refusal;
 
 // The largest parts that a case may lend.
 const SHEET: usize = 4097;
@@ -29,8 +30,8 @@ fn cells_of(digits: usize) -> [u8; 9] {
     cells
 }
 
-// The number that the call of a case answers, where the rooms are large enough for what it lends.
-pub fn answer(case: Case, file: &[u8]) -> Option<u32> {
+// Whether the call of a case is accepted, where the rooms are large enough for what it lends.
+pub fn answer(case: Case, file: &[u8]) -> Option<Result<(), Refusal>> {
     let lent = case.lent;
     let sheet = [byte_of(case.value); SHEET];
     let cells = cells_of(case.element);
