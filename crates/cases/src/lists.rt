@@ -1,6 +1,6 @@
-// The list of cases, line by line: `CALL, CASE: WORD NUMBER WORD NUMBER..`, what differs from the call's accepted case; where the call
-// reads a file, its bytes come last, after a bar, with `_`, `^` and `~` for the line feed, the carriage return and the tab. A line
-// that begins with `#` is a remark.
+// The list of cases, line by line: `CALL, CASE: WORD NUMBER WORD NUMBER..`, what differs from the call's accepted case; where the
+// call reads a file, its bytes come last, after a bar, with `_`, `^` and `~` for the line feed, the carriage return and the tab. A
+// line that begins with `#` is a remark.
 ghost use Rattle.std.specs.Prelude.{◌≤◌, ◌-◌, length};
 
 use super::asking::{Call, Case};
