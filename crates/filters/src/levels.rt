@@ -96,11 +96,7 @@ fn go_through(
 pub fn highest(levels: &[u16]) -> u16
     ensures { Highest levels.now (length levels.now) result }
 {
-    let mut most = 0;
-    for &level in levels {
-        most = level.max(most);
-    }
-    most
+    levels.iter().copied().max().unwrap_or(0)
 }
 
 // How many sizes a plan goes through: a closing those up to its cap, an opening those below the highest of the eroded levels,
