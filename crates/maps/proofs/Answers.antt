@@ -41,7 +41,7 @@ use Rattle.run.specs.declared.Input.{Input}
 use Rattle.filters.specs.Filters.{IsSheet, foreground_of, element_of}
 use Rattle.filters.proofs.SheetAnswers.{tested_sheet}
 use Rattle.maps.specs.Maps.{Buffers, size_in, size_of, map_refusals, DilatesByMap}
-use Rattle.maps.specs.Raising.{raised, Raised, map_record, StartsByMap, Finishes}
+use Rattle.maps.specs.Raising.{raised, map_record, StartsByMap, Finishes}
 use Rattle.maps.proofs.SeenLaws.{sizes_small}
 use Rattle.maps.proofs.Refusing.{Taken, taken}
 
@@ -78,10 +78,6 @@ module _ (input : Input) (sheet bytes : List ℕ) (cap : ℕ) (lent : List ℕ)
         let c = canvas_area input.width input.height cap input.side lent
         (dilation_taken input.width input.height sheet input.side bytes cap lent z).2 in
         rw (is, ap (λ t. t.1) begun_is) (record { wide = c.wide; high = c.high; room = is_started.size })
-
-    pub start_raised : (map : List ℕ) {most : ℕ} {after : List ℕ} → most ≡ suc cap
-        → Raised input.width m input.height most map levels after → StartsByMap input sheet bytes cap map run after
-    start_raised map e raised = record { run = ap (λ t. t.0) begun_is; start = rw (is, e, ap (λ t. t.1) begun_is) at raised }
 
   -- the same with the levels raised by a map
   module _ (map : List ℕ) {run : Record} {levels : List ℕ} (s : StartsByMap input sheet bytes cap map run levels) where
