@@ -30,7 +30,9 @@ fn lower_each<F: Fn(usize) -> u16>(levels: &mut [u16], offer: F)
     }
 }
 
-// The row, by the partners in the row that a cell leads to, `across` columns on from 3 before.
+// The row, by the partners in the row that a cell leads to, `across` columns on from 3 before. It is not inlined, so that nothing of
+// it is worked out for the cells that are not set.
+#[inline(never)]
 fn by_columns(worked: &mut [u16], partners: &[u16], across: usize, beyond: u16)
     requires { length partners.now ≡ length worked.old }
     ensures { Pass 0 (length worked.old) (λ col. more (column_at (length worked.old) 0 beyond partners.now (col + across)))
