@@ -12,6 +12,7 @@ pub fn digit_count(n: usize) -> usize
 }
 
 // The byte of the digit `n`.
+// Kept: a function, whose contract tells a digit's byte from another (`digit_off_by_one`).
 fn digit_byte(n: usize) -> u8
     requires { n < 10 }
     ensures { result ≡ 48 + n }

@@ -1,3 +1,4 @@
+// Kept in all its modules: numbers for refusals, plain numbers in a row, and a function for each call, since C calls them.
 // The library's boundary to C: each call of the library as a plain C function over numbers and slices.
 #![tactic(auto)]
 

@@ -19,7 +19,7 @@ pub struct Frame {
     pub height: usize,
 }
 
-// Blank, TAB, CR or LF; std's `is_ascii_whitespace` would take a form feed too.
+// Kept: Blank, TAB, CR or LF; std's `is_ascii_whitespace` would take a form feed too.
 #[tactic(auto, unfolding(crate::specs::Header::is_white))]
 fn is_white(byte: u8) -> bool
     ensures { result ≡ is_white byte }
