@@ -26,8 +26,8 @@ fn write_refused(number: usize, out: &mut [u8]) -> usize
     requires { (number < 4294967296) × (text_room ≤ length out.old) }
     ensures { Prints (refused_text number) result out.new }
 {
-    let end = text::write_labelled(b"refused ", number, out, 0);
-    text::write_bytes(b"\n", out, end)
+    let end = text::write_labelled(b"refused ", number, out);
+    end + text::write_bytes(b"\n", &mut out[end..])
 }
 
 // Erodes a sheet with the cross, all rows at once, and collects its levels; gives the run's record. No call of it refuses.

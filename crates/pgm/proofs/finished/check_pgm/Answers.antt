@@ -50,5 +50,5 @@ returns-then-header c =
 pub returns : goal.returns
 returns c =
     let bad = kept (goal.at.returns c).After-header_of-header in
-    accept_picture c.args.run c.args.levels.now c.args.out.now bad c.header_of-header.ensures c.any_above.ensures c.if-any_above.false
-    c.if-levels-run.false c.pgm_length.ensures c.if-out-pgm_length.false c.if-header.false
+    accept_picture c.args.run c.args.levels.now c.args.out.now bad c.header_of-header.ensures c.any_above.ensures
+    c.if-any_above.false c.if-levels-run.false c.pgm_length.ensures c.if-out-pgm_length.false c.if-header.false
