@@ -116,7 +116,9 @@ fn lower_to_least(worked: &mut [u16], at: usize, near: u32, middle: u32, far: u3
     level
 }
 
-// The row, by its partners in the own row, with the three levels worked last in locals.
+// The row, by its partners in the own row, with the three levels worked last in locals. It is not inlined, so that its loops keep
+// all that they need in registers.
+#[inline(never)]
 fn by_three(worked: &mut [u16], upward: bool, one: bool, two: bool, three: bool, beyond: u16)
     ensures { worked.new ≡ own_columns upward (length worked.old) one two three beyond (length worked.old) worked.old }
 {
@@ -155,6 +157,7 @@ fn lower_two(worked: &mut [u16], first: usize, second: usize, near: u32) -> u32
 }
 
 // The row, by its partners in the own row, where the nearest of the three cells is the only one set.
+#[tactic(auto, unfolding(crate::specs::RowRule::place))]
 fn by_nearest(worked: &mut [u16], upward: bool, beyond: u16)
     ensures { worked.new ≡ own_columns upward (length worked.old) true false false beyond (length worked.old) worked.old }
 {
@@ -163,7 +166,8 @@ fn by_nearest(worked: &mut [u16], upward: bool, beyond: u16)
     let width = worked.len();
     for pair in 0..width / 2 {
         let first = column(upward, width, 2 * pair);
-        near = lower_two(worked, first, column(upward, width, 2 * pair + 1), near);
+        let second = if upward { first - 1 } else { first + 1 };
+        near = lower_two(worked, first, second, near);
     }
     if width % 2 == 1 {
         lower_to_least(
