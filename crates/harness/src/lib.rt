@@ -1,5 +1,5 @@
-// Kept in all its modules: numbers for refusals, plain numbers in a row, and a function for each call, since C calls them.
 // The library's boundary to C: each call of the library as a plain C function over numbers and slices.
+// Kept in all its modules, since C calls them: numbers for refusals, numbers one by one, and a function for each call.
 #![tactic(auto)]
 
 pub mod answers;

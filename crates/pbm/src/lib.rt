@@ -19,7 +19,7 @@ pub struct Frame {
     pub height: usize,
 }
 
-// Kept: Blank, TAB, CR or LF; std's `is_ascii_whitespace` would take a form feed too.
+// Blank, TAB, CR or LF. Kept: std's `is_ascii_whitespace` would take a form feed too.
 #[tactic(auto, unfolding(crate::specs::Header::is_white))]
 fn is_white(byte: u8) -> bool
     ensures { result ≡ is_white byte }

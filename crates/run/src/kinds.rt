@@ -15,8 +15,7 @@ pub enum Kind {
     Cropping,
 }
 
-// Kept as numbers: a record is also what a caller has in memory, and one that no start gives is answered.
-// The kinds, as a record has them.
+// The kinds, as a record has them. Kept: numbers, like the record's fields.
 pub const EROSION: u8 = 1;
 
 pub const DILATION: u8 = 2;

@@ -17,10 +17,9 @@ pub struct Input {
     pub side: usize,
 }
 
-// Kept: kind and edge rule as numbers, since every call takes a record that no start gives too, and refuses it (`foreign_exact`).
 // A run's record. Kind 1 is an erosion, 2 a dilation; the cells are the element's 49 in one flat row, as given. The edge rule is 0
 // where background lies beyond the frame and 1 where foreground does, as for an erosion of a cropped sheet; a plain erosion has no
-// cap, which is then 0.
+// cap, which is then 0. Kept: kind and edge rule as numbers, since every call takes a record that no start gives too (`foreign_exact`).
 #[derive(Clone, Copy)]
 pub struct Record {
     pub kind: u8,

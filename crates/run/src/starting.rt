@@ -210,8 +210,8 @@ pub fn start_on_canvas(
     Ok(run)
 }
 
-// Kept: two calls, each with a promise of its own; what they share is `start_on_canvas`.
 // Public: starts a dilation on the canvas, its levels 1 on the foreground and 65,535 elsewhere. Refusals 2 to 10.
+// Kept: this and the next, each with a promise of its own; what they share is `start_on_canvas`.
 pub fn start_dilation(
     input: Input,
     sheet: &[u8],
