@@ -27,18 +27,3 @@ scan_rows-requires c =
       work_lent args.run s args.levels.now pre.1.0 _ _ area_width.ensures.0 h,
       (omega arith, rw scan_cells.ensures (scan_reaches args.run s)),
     )
-
-pub returns : goal.returns
-returns c =
-    let args = c.args in
-    let pre = c.requires in
-    let area_width = c.area_width in
-    let area_height = c.area_height in
-    let scan_cells = c.scan_cells in
-    let beyond_of = c.beyond_of in
-    let same = work_area args.run (sound args.run pre.0) args.levels.now pre.1.0 _ _ area_width.ensures.0
-    area_height.ensures.0 _ _ beyond_of.ensures scan_cells.ensures in
-    let scan-rows = c.scan_rows in (
-      scan-rows.ensures.0 ∙ ap (λ a. scan_rows a args.run.rows args.count args.levels.now) same,
-      scan-rows.ensures.1 ∙ ap (λ a. rows_lowered a args.run.rows args.count args.levels.now) same,
-    )

@@ -11,11 +11,6 @@ pub slice_bounds-fill_row-end : goal.slice_bounds-fill_row-end
 slice_bounds-fill_row-end c =
     rows_inside c.loop-row.invariant c.area_width-side.ensures (rw c.area_height-row-end.ensures at c.loop-row-test.true)
 
-pub fill_row-requires : goal.fill_row-requires
-fill_row-requires c =
-    let side = c.area_width-side.ensures in
-    (rows_room c.loop-row.invariant side (rw c.area_height-row-end.ensures at c.loop-row-test.true) ∙ side, (c.requires.0.wide, (c.requires.0.high, (c.requires.1, rw c.area_height-row-end.ensures at c.loop-row-test.true))))
-
 pub loop-row-preserved : goal.loop-row-preserved
 loop-row-preserved c = rows_turn c.loop-row.invariant c.area_width-side.ensures (rw c.area_height-row-end.ensures at c.loop-row-test.true) c.fill_row.ensures
 
