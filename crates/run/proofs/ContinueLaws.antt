@@ -24,17 +24,10 @@ module _ (r : Record) (levels : List ℕ) (allowance : ℕ) where
       → Continues r levels allowance n y → (m ≡ n) × (x ≡ y)
   continue_unique = rule_unique
 
--- what the scan of rows asks and gives, with the area's values in the code's locals
-module _ (r : Record) (s : Sound r) (levels : List ℕ) (size : length levels ≡ area_height r * area_width r) (width height : ℕ)
-    (w : width ≡ area_width r) (h : height ≡ area_height r) where
-  pub work_lent : Lent width height levels
-  work_lent =
-      let a = s.wide in
-      let b = s.high in
-      let c = s.area_wide in
-      let d = s.area_high in
-      rw (w, h) (record { wide = (omega arith, c); high = (omega arith, d); size = size })
-
-  pub work_area : (beyond : ℕ) (cells : List (List ℕ)) → beyond ≡ beyond_of r → cells ≡ cells_of r
-      → area width height beyond cells ≡ area_of r
-  work_area beyond cells b c = rw (w, h, b, c)
+-- what the scan of rows asks
+pub work_lent : (r : Record) → Sound r → (levels : List ℕ) → length levels ≡ area_height r * area_width r
+    → Lent (area_width r) (area_height r) levels
+work_lent r s levels size =
+    let a = s.wide in
+    let b = s.high in
+    record { wide = (omega arith, s.area_wide); high = (omega arith, s.area_high); size = size }

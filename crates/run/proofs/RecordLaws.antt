@@ -142,6 +142,25 @@ sound r e =
       area_high = fits.2;
     }
 
+-- what is small of it, law by law
+module _ (r : Record) (e : foreign r ≡ false) where
+  pub side_sound : is_side r.side ≡ true
+  side_sound = (sound r e).side_is
+
+  pub cap_sound : r.cap ≤ 2047
+  cap_sound = (sound r e).cap_small
+
+  pub width_sound : (1 ≤ r.width) × (area_width r ≤ 4096)
+  width_sound = ((sound r e).wide.0, (sound r e).area_wide)
+
+  pub height_sound : (1 ≤ r.height) × (area_height r ≤ 4096)
+  height_sound = ((sound r e).high.0, (sound r e).area_high)
+
+  pub area_sound : area_height r * area_width r ≤ 4096 * 4096
+  area_sound = mul-le-mul (sound r e).area_high (sound r e).area_wide
+
+pub ruleset sounds = (side_sound, cap_sound, width_sound, height_sound, area_sound)
+
 -- a record that is not refused
 pub not_bad : (r : Record) → record_bad r ≡ false → (foreign r ≡ false) × (r.rows ≤ due r)
 unfolding record_bad
