@@ -8,10 +8,9 @@ use lib.ListN.{length}
 use borrow.Author.Tests.{le-ltb}
 use Rattle.basics.specs.Refusals.{first}
 use Rattle.basics.proofs.RefusalLaws.{rule_unique}
-use Rattle.scan.specs.Scan.{area, Lent}
+use Rattle.scan.specs.Scan.{Lent}
 use Rattle.run.specs.declared.Record.{Record}
-use Rattle.run.specs.Kinds.{beyond_of, cells_of}
-use Rattle.run.specs.Records.{area_width, area_height, area_of, record_bad}
+use Rattle.run.specs.Records.{area_width, area_height, record_bad}
 use Rattle.run.specs.Continuing.{State, levels_wrong, continue_refusals, Continues}
 use Rattle.run.proofs.RecordLaws.{Sound}
 

@@ -159,7 +159,10 @@ module _ (r : Record) (e : foreign r ≡ false) where
   pub area_sound : area_height r * area_width r ≤ 4096 * 4096
   area_sound = mul-le-mul (sound r e).area_high (sound r e).area_wide
 
-pub ruleset sounds = (side_sound, cap_sound, width_sound, height_sound, area_sound)
+  pub frame_sound : (r.width ≤ 4096) × (r.height * r.width ≤ 4096 * 4096)
+  frame_sound = ((sound r e).wide.1, mul-le-mul (sound r e).high.1 (sound r e).wide.1)
+
+pub ruleset sounds = (side_sound, cap_sound, width_sound, height_sound, area_sound, frame_sound)
 
 -- a record that is not refused
 pub not_bad : (r : Record) → record_bad r ≡ false → (foreign r ≡ false) × (r.rows ≤ due r)

@@ -1,7 +1,6 @@
-use Rattle.run.proofs.PartLaws.{rows_start, rows_inside, rows_room, rows_turn}
+use Rattle.run.proofs.PartLaws.{rows_start, rows_inside, rows_turn}
 use Rattle.run.proofs.StartLaws.{start_raster}
 use native.Mathlib.Omega.{arith}
-use mathlib.Core.Path.{◌∙◌}
 use Rattle.run.proofs.starting.fill_area.Goals as goal
 
 pub loop-row-init : goal.loop-row-init
