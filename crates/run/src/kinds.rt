@@ -15,8 +15,8 @@ pub enum Kind {
     Cropping,
 }
 
-// Kept as numbers: a record is also what a caller has in memory, and one that no start gives is answered.
 // The kinds, as a record has them.
+// Kept: numbers, since callers have records in memory, and one that no start gives is answered.
 pub const EROSION: u8 = 1;
 
 pub const DILATION: u8 = 2;

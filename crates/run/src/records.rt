@@ -22,6 +22,7 @@ pub struct Frame {
 
 impl Frame {
     // The sides of the area: the frame's, with the margin on both sides.
+    // Kept: one method, as in frame.area_side(frame.width), would be no plainer.
     pub fn area_width(self) -> usize
         requires { canvas_side self.width self.margin ≤ 2 ^ 32 }
         ensures { result ≡ canvas_side self.width self.margin }

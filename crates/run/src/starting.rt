@@ -215,6 +215,7 @@ pub fn start_on_canvas(
 }
 
 // Public: starts a dilation on the canvas, its levels 1 on the foreground and 65,535 elsewhere. Refusals 2 to 10.
+// Kept: this and the next are two public names.
 pub fn start_dilation(
     input: Input,
     sheet: &[u8],
