@@ -1,31 +1,28 @@
 // The lines that are printed.
-use std::io;
+use anyhow::Result;
 
 // A call and its case, and the number that it answered.
-pub fn say(rt: &impl Print, case: &[u8], number: u32) -> io::Result<()> {
+pub fn say(rt: &impl Print, case: &[u8], number: u32) -> Result<()> {
     rt.write_all(case)?;
-    println!(rt; ": {number}")
+    println!(rt; ": {number}")?;
+    Ok(())
 }
 
 // What was done, and how many points it lowered.
-pub fn say_count(rt: &impl Print, slice: &[u8], points: usize) -> io::Result<()> {
-    rt.write_all(slice)?;
-    println!(rt; ", points lowered: {points}")
+pub fn say_count(rt: &impl Print, slice: &str, points: usize) -> Result<()> {
+    println!(rt; "{slice}, points lowered: {points}")?;
+    Ok(())
 }
 
 // A call, and whether its answers to the two sheets of case 10 are the same.
-pub fn say_same(rt: &impl Print, call: &[u8], same: bool) -> io::Result<()> {
-    rt.write_all(call)?;
-    if same {
-        return println!(rt; ", padding bits set and unset: the same");
-    }
-    println!(rt; ", padding bits set and unset: NOT the same")
+pub fn say_same(rt: &impl Print, call: &str, same: bool) -> Result<()> {
+    let found = if same { "the same" } else { "NOT the same" };
+    println!(rt; "{call}, padding bits set and unset: {found}")?;
+    Ok(())
 }
 
 // A text at the front of a room.
-pub fn say_text(rt: &impl Print, room: &[u8], size: usize) -> io::Result<()> {
-    if room.len() < size {
-        return Ok(());
-    }
-    rt.write_all(&room[0..size])
+pub fn say_text(rt: &impl Print, room: &[u8], size: usize) -> Result<()> {
+    rt.write_all(room.get(..size).unwrap_or(&[]))?;
+    Ok(())
 }

@@ -1,152 +1,96 @@
-// The list of cases, line by line: `CALL, CASE: WORD NUMBER WORD NUMBER..`, what differs from the call's accepted case; where the call
-// reads a file, its bytes come last, after a bar, with `_`, `^` and `~` for the line feed, the carriage return and the tab. A line
-// that begins with `#` is a remark.
-ghost use Rattle.std.specs.Prelude.{◌≤◌, length};
+// The list of cases, line by line: `CALL, CASE: WORD NUMBER WORD NUMBER..`, what differs from the call's accepted case; where the
+// call reads a file, its bytes come last, after a bar, with `_`, `^` and `~` for the line feed, the carriage return and the tab. A
+// line that begins with `#` is a remark.
+ghost use Rattle.std.specs.Prelude.{◌≤◌, ◌-◌, length};
 
-use super::asking::Case;
-use super::{asking, lines, rooms};
-use std::io;
+use super::asking::{Call, Case};
+use super::{lines, rooms};
+use anyhow::Result;
+use basics::Refusal;
+
+// What is printed for a line that is no case.
+const NO_CASE: u32 = 99;
 
 // The longest file of a line.
 const FILE: usize = 32;
 
-// The place of the first such byte from a place on, or the end.
-fn place_of(byte: u8, text: &[u8], at: usize) -> usize
-    requires { at ≤ length text.now }
-    ensures { (at ≤ result) × (result ≤ length text.now) }
+// The place of the first such byte, or the end.
+fn place_of(byte: u8, text: &[u8]) -> usize
+    ensures { result ≤ length text.now }
 {
-    let mut i = at;
-    while i < text.len() {
-        if text[i] == byte {
-            return i;
-        }
-        i += 1;
-    }
-    i
+    text.iter()
+        .position(|other| *other == byte)
+        .unwrap_or(text.len())
 }
 
-// So many bytes after a place, or the end.
-fn place_after(text: &[u8], at: usize, count: usize) -> usize
-    requires { at ≤ length text.now }
-    ensures { (at ≤ result) × (result ≤ length text.now) }
+// What stands before the first such byte, and after it: all and nothing where there is none.
+fn cut(byte: u8, text: &[u8]) -> (&[u8], &[u8])
+    ensures { length result.1.now ≤ length text.now - 1 }
 {
-    if text.len() - at < count {
-        return text.len();
-    }
-    at + count
+    let end = place_of(byte, text);
+    (&text[..end], text.get(end + 1..).unwrap_or(&[]))
 }
 
 fn number_of(digits: &[u8]) -> usize {
-    let read = decimal::read_number(digits, 0, 4294967295);
-    read.value
+    decimal::read_number(digits, 0, 4294967295).value
 }
 
-// The number of a call, or one that is no call's.
-fn call_of(name: &[u8], names: &[u8]) -> usize {
-    let mut call = 0;
-    let mut at = 0;
-    while at < names.len() {
-        let end = place_of(b',', names, at);
-        if name == &names[at..end] {
-            return call;
-        }
-        if end == names.len() {
-            return asking::NO_CALL;
-        }
-        at = end + 1;
-        call += 1;
-    }
-    asking::NO_CALL
-}
-
-// What the words of a line ask for.
-fn asked(accepted: Case, words: &[u8]) -> Case {
+// What the words of a line ask for, each with its number behind it.
+fn asked(accepted: Case, words: &[u8]) -> Option<Case> {
     let mut case = accepted;
-    let mut at = 0;
-    while at < words.len() {
-        let gap = place_of(b' ', words, at);
-        let from = place_after(words, gap, 1);
-        let to = place_of(b' ', words, from);
-        case = asking::changed(case, words[at], number_of(&words[from..to]));
-        if to == words.len() {
-            return case;
-        }
-        at = to + 1;
+    let mut left = words;
+    while !left.is_empty() {
+        let (word, behind) = cut(b' ', left);
+        let (digits, next) = cut(b' ', behind);
+        case = case.changed(*word.first()?, number_of(digits))?;
+        left = next;
     }
-    case
+    Some(case)
 }
 
 // The byte that a line has it for.
 fn white(byte: u8) -> u8 {
-    if byte == b'_' {
-        return b'\n';
+    match byte {
+        b'_' => b'\n',
+        b'^' => b'\r',
+        b'~' => b'\t',
+        _ => byte,
     }
-    if byte == b'^' {
-        return b'\r';
-    }
-    if byte == b'~' {
-        return b'\t';
-    }
-    byte
 }
 
-// The bytes of a file.
+// The bytes of a file, as many as there is room for.
 fn file_of(text: &[u8]) -> [u8; FILE] {
-    let mut file = [0u8; FILE];
-    let mut k = 0;
-    while k < FILE {
-        if k == text.len() {
-            return file;
-        }
-        let byte = white(text[k]);
-        file[k] = byte;
-        k += 1;
+    let mut file = [0; FILE];
+    for (place, byte) in file.iter_mut().zip(text) {
+        *place = white(*byte);
     }
     file
 }
 
-// The number that a line's call answers.
-fn number_for(call: &[u8], words: &[u8], text: &[u8]) -> u32 {
-    let number = call_of(
-        call,
-        b"start_erosion,start_dilation,start_cropped,continue_run,collect,threshold,provisional,\
-          write_pgm,reflect,read_pbm,write_pbm,open,close,opening_levels,closing_levels,\
-          dilate_by_map,spectrum",
-    );
-    let case = asked(asking::accepted(number), words);
+// The number that a line's call answers, 0 where it is accepted.
+fn number_for(call: &[u8], words: &[u8], text: &[u8]) -> Option<u32> {
+    let accepted = Case::accepted(Call::from_name(call)?);
+    let case = asked(accepted, words)?;
     let file = file_of(text);
-    let length = text.len();
-    if FILE < length {
-        return super::calls::NO_CASE;
-    }
-    rooms::answer(case, &file[0..length])
+    let answer = rooms::answer(case, file.get(..text.len())?)?;
+    Some(answer.err().map_or(0, Refusal::number))
 }
 
-fn answer_line(rt: &impl Print, line: &[u8]) -> io::Result<()> {
-    if line.len() == 0 {
+fn answer_line(rt: &impl Print, line: &[u8]) -> Result<()> {
+    if line.is_empty() || line.starts_with(b"#") {
         return Ok(());
     }
-    if line[0] == b'#' {
-        return Ok(());
-    }
-    let comma = place_of(b',', line, 0);
-    let colon = place_of(b':', line, comma);
-    let from = place_after(line, colon, 2);
-    let bar = place_of(b'|', line, from);
-    let rest = place_after(line, bar, 1);
-    let number = number_for(&line[0..comma], &line[from..bar], &line[rest..]);
-    lines::say(rt, &line[0..colon], number)
+    let comma = place_of(b',', line);
+    let colon = comma + place_of(b':', &line[comma..]);
+    let asked = line.get(colon + 2..).unwrap_or(&[]);
+    let (words, file) = cut(b'|', asked);
+    let number = number_for(&line[..comma], words, file).unwrap_or(NO_CASE);
+    lines::say(rt, &line[..colon], number)
 }
 
-pub fn answer_all(rt: &impl Print, text: &[u8]) -> io::Result<()> {
-    let mut at = 0;
-    while at < text.len() {
-        let end = place_of(b'\n', text, at);
-        answer_line(rt, &text[at..end])?;
-        if end == text.len() {
-            return Ok(());
-        }
-        at = end + 1;
+pub fn answer_all(rt: &impl Print, text: &[u8]) -> Result<()> {
+    for line in text.split(|byte| *byte == b'\n') {
+        answer_line(rt, line)?;
     }
     Ok(())
 }

@@ -8,6 +8,7 @@ mod asking;
 mod calls;
 mod counts;
 mod crops;
+mod elements;
 mod lines;
 mod lists;
 mod padding;
@@ -16,12 +17,12 @@ mod records;
 mod rooms;
 mod sizes;
 
-use std::io;
+use anyhow::Result;
 
 // As much of the input as is read.
 const INPUT: usize = 65536;
 
-fn main(rt: HostRuntime) -> io::Result<()> {
+fn main(rt: HostRuntime) -> Result<()> {
     let mut input = [0u8; INPUT];
     let length = input::read_full(&mut rt.reader(), &mut input)?;
     lists::answer_all(&rt, &input[..length])?;

@@ -2,12 +2,12 @@
 // element is the cross, the size and the cap are 1; a canvas is 11 by 5.
 ghost use Rattle.std.specs.Prelude.{◌≤◌};
 
-use super::asking::Case;
-use super::{asking, calls, lines};
+use super::asking::{Call, Case};
+use super::elements::{self, CROSS};
+use super::{calls, lines};
+use anyhow::Result;
+use basics::Refusal;
 use run::Record;
-use std::io;
-
-const CROSS: [u8; 9] = [0, 1, 0, 1, 1, 1, 0, 1, 0];
 
 const FRAME: usize = 27;
 
@@ -19,158 +19,135 @@ const SHEET: usize = 6;
 const FILE: usize = 13;
 
 // What a call leaves: levels, and a packed sheet or a file at the front of the bytes.
-#[derive(Clone, Copy)]
+#[derive(Clone, Copy, PartialEq, Eq)]
 struct Left {
     levels: [u16; FRAME],
     bytes: [u8; FILE],
 }
 
-fn same_levels(one: [u16; FRAME], other: [u16; FRAME]) -> bool {
-    let mut i = 0;
-    while i < FRAME {
-        if one[i] != other[i] {
-            return false;
-        }
-        i += 1;
-    }
-    true
-}
-
-fn begun(call: usize, sheet: &[u8], levels: &mut [u16]) -> Record {
-    if call == asking::START_EROSION {
-        let started = run::starting::start_erosion(9, 3, sheet, 3, &CROSS, levels);
-        return started.run;
-    }
-    if call == asking::START_DILATION {
-        let started = run::starting::start_dilation(9, 3, sheet, 3, &CROSS, 1, levels);
-        return started.run;
-    }
-    let started = run::starting::start_cropped(9, 3, sheet, 3, &CROSS, 1, levels);
-    started.run
-}
-
-// A run of all rows: its levels collected, and the sheet that it holds at 1.
+// Continues a run over all its rows: its levels collected, and the sheet that it holds at 1.
 fn run_through(
-    call: usize,
-    sheet: &[u8],
+    started: Record,
     work: &mut [u16],
     out: &mut [u16],
     bytes: &mut [u8],
-) -> Record {
-    let started = begun(call, sheet, work);
-    let continued = run::continuing::continue_run(started, work, basics::MOST_ROWS);
-    let done = continued.run;
-    let _collected = run::pictures::collect(done, work, out);
-    let _held = run::pictures::threshold(done, work, 1, bytes);
-    done
-}
-
-fn case_of(call: usize) -> Case {
-    let mut case = asking::accepted(call);
-    case.width = 9;
-    case
+) -> Result<Record, Refusal> {
+    let done = run::continuing::continue_run(started, work, basics::MOST_ROWS)?.run;
+    run::pictures::collect(done, work, out)?;
+    run::pictures::threshold(done, work, 1, bytes)?;
+    Ok(done)
 }
 
 // The call on a sheet, with `work` levels to work with and room for `room` bytes.
-fn left_by(call: usize, sheet: &[u8], work: usize, room: usize) -> Left
+fn left_by(call: Call, sheet: &[u8], work: usize, room: usize) -> Result<Left, Refusal>
     requires { (work ≤ 55) × (room ≤ 13) }
 {
-    let mut first_room = [0u16; CANVAS];
-    let mut second_room = [0u16; CANVAS];
-    let mut levels = [0u16; FRAME];
-    let mut table = [0u64; 1];
-    let mut bytes = [0u8; FILE];
-    let first: &mut [u16] = &mut first_room;
-    let second: &mut [u16] = &mut second_room;
-    let out: &mut [u8] = &mut bytes;
-    if call <= asking::START_CROPPED {
-        run_through(
-            call,
-            sheet,
-            &mut first[0..work],
-            &mut levels,
-            &mut out[0..room],
-        );
-        return Left { levels, bytes };
+    let mut first_room = [0; CANVAS];
+    let mut second_room = [0; CANVAS];
+    let mut levels = [0; FRAME];
+    let mut bytes = [0; FILE];
+    let first = &mut first_room[..work];
+    let second = &mut second_room[..work];
+    let out = &mut bytes[..room];
+    match call {
+        Call::StartErosion => {
+            let started = run::starting::start_erosion(
+                elements::input_on(9, 3),
+                sheet,
+                &CROSS,
+                first,
+            )?;
+            run_through(started, first, &mut levels, out)?;
+        }
+        Call::StartDilation => {
+            let started = run::starting::start_dilation(
+                elements::input_on(9, 3),
+                sheet,
+                &CROSS,
+                1,
+                first,
+            )?;
+            run_through(started, first, &mut levels, out)?;
+        }
+        Call::StartCropped => {
+            let started = run::starting::start_cropped(
+                elements::input_on(9, 3),
+                sheet,
+                &CROSS,
+                1,
+                first,
+            )?;
+            run_through(started, first, &mut levels, out)?;
+        }
+        _ => {
+            let mut case = Case::accepted(call);
+            case.width = 9;
+            calls::answer(
+                case,
+                sheet,
+                sheet,
+                &CROSS,
+                first,
+                second,
+                &mut levels,
+                &mut [0],
+                out,
+            )?;
+        }
     }
-    calls::answer(
-        case_of(call),
-        sheet,
-        sheet,
-        &CROSS,
-        &mut first[0..work],
-        &mut second[0..work],
-        &mut levels,
-        &mut table,
-        &mut out[0..room],
-    );
-    Left { levels, bytes }
+    Ok(Left { levels, bytes })
 }
 
 // Compares what a call leaves of the sheet with its padding bits unset and set.
-fn compare(rt: &impl Print, name: &[u8], call: usize, work: usize, room: usize) -> io::Result<()>
+fn compare(rt: &impl Print, name: &str, call: Call, work: usize, room: usize) -> Result<()>
     requires { (work ≤ 55) × (room ≤ 13) }
 {
     let unset = [255u8, 128, 255, 128, 255, 128];
     let set = [255u8; SHEET];
-    let one = left_by(call, &unset, work, room);
-    let other = left_by(call, &set, work, room);
-    let one_levels = one.levels;
-    let other_levels = other.levels;
-    let one_bytes = one.bytes;
-    let other_bytes = other.bytes;
-    if same_levels(one_levels, other_levels) {
-        return lines::say_same(rt, name, one_bytes == other_bytes);
-    }
-    lines::say_same(rt, name, false)
+    let same = left_by(call, &unset, work, room)? == left_by(call, &set, work, room)?;
+    lines::say_same(rt, name, same)
 }
 
-fn read(file: &[u8]) -> [u8; SHEET] {
-    let mut out = [0u8; SHEET];
-    let _found = pbm::read_pbm(file, &mut out);
-    out
+fn read(file: &[u8]) -> Result<[u8; SHEET], Refusal> {
+    let mut out = [0; SHEET];
+    pbm::read_pbm(file, &mut out)?;
+    Ok(out)
 }
 
-fn compare_read(rt: &impl Print) -> io::Result<()> {
-    let one = read(b"P4\n9 3\n\xff\x80\xff\x80\xff\x80");
-    let other = read(b"P4\n9 3\n\xff\xff\xff\xff\xff\xff");
-    lines::say_same(rt, b"read_pbm", one == other)
+fn compare_read(rt: &impl Print) -> Result<()> {
+    let one = read(b"P4\n9 3\n\xff\x80\xff\x80\xff\x80")?;
+    let other = read(b"P4\n9 3\n\xff\xff\xff\xff\xff\xff")?;
+    lines::say_same(rt, "read_pbm", one == other)
 }
 
 // The picture of the erosion of the sheet with its padding bits set.
-fn show_levels(rt: &impl Print) -> io::Result<()> {
-    let sheet = [255u8; SHEET];
-    let mut work = [0u16; FRAME];
-    let mut levels = [0u16; FRAME];
-    let mut bytes = [0u8; SHEET];
-    let done = run_through(
-        asking::START_EROSION,
+fn show_levels(rt: &impl Print) -> Result<()> {
+    let sheet = [255; SHEET];
+    let mut work = [0; FRAME];
+    let mut levels = [0; FRAME];
+    let mut bytes = [0; SHEET];
+    let started = run::starting::start_erosion(
+        elements::input_on(9, 3),
         &sheet,
+        &CROSS,
         &mut work,
-        &mut levels,
-        &mut bytes,
-    );
-    let mut text = [0u8; 128];
-    let written = pgm::finished::write_pgm(done, &levels, &mut text);
-    lines::say_text(rt, &text, written.length)
+    )?;
+    let done = run_through(started, &mut work, &mut levels, &mut bytes)?;
+    let mut text = [0; 128];
+    let length = pgm::finished::write_pgm(done, &levels, &mut text)?;
+    lines::say_text(rt, &text, length)
 }
 
-pub fn same_answers(rt: &impl Print) -> io::Result<()> {
+pub fn same_answers(rt: &impl Print) -> Result<()> {
     show_levels(rt)?;
-    compare(rt, b"erosion levels", asking::START_EROSION, FRAME, SHEET)?;
-    compare(rt, b"erosion by 1", asking::START_EROSION, FRAME, SHEET)?;
-    compare(
-        rt,
-        b"dilation levels",
-        asking::START_DILATION,
-        CANVAS,
-        SHEET,
-    )?;
-    compare(rt, b"cropped levels", asking::START_CROPPED, CANVAS, SHEET)?;
-    compare(rt, b"write_pbm", asking::WRITE_PBM, FRAME, FILE)?;
+    compare(rt, "erosion levels", Call::StartErosion, FRAME, SHEET)?;
+    compare(rt, "erosion by 1", Call::StartErosion, FRAME, SHEET)?;
+    compare(rt, "dilation levels", Call::StartDilation, CANVAS, SHEET)?;
+    compare(rt, "cropped levels", Call::StartCropped, CANVAS, SHEET)?;
+    compare(rt, "write_pbm", Call::WritePbm, FRAME, FILE)?;
     compare_read(rt)?;
-    compare(rt, b"opening by 1", asking::OPEN, FRAME, SHEET)?;
-    compare(rt, b"closing by 1", asking::CLOSE, CANVAS, SHEET)?;
-    compare(rt, b"opening levels", asking::OPENING_LEVELS, FRAME, FILE)?;
-    compare(rt, b"closing levels", asking::CLOSING_LEVELS, CANVAS, FILE)
+    compare(rt, "opening by 1", Call::Open, FRAME, SHEET)?;
+    compare(rt, "closing by 1", Call::Close, CANVAS, SHEET)?;
+    compare(rt, "opening levels", Call::OpeningLevels, FRAME, FILE)?;
+    compare(rt, "closing levels", Call::ClosingLevels, CANVAS, FILE)
 }

@@ -1,32 +1,26 @@
 // The worked example of dilating by a map: of a row of seven, points 1 and 5 by sizes 0 and 1, with the origin and its right
 // neighbour. Printed is the byte of the answer, 70 for points 1, 5 and 6.
-use super::lines;
-use filters::Input;
-use std::io;
-
-const PAIR: [u8; 9] = [0, 0, 0, 0, 1, 1, 0, 0, 0];
+use super::elements::{self, PAIR};
+use anyhow::Result;
+use basics::Refusal;
 
 // The byte that a row's byte gives, with a size at the background points.
-fn dilated(row: u8, elsewhere: u16) -> u8 {
-    let input = Input {
-        width: 7,
-        height: 1,
-        side: 3,
-    };
+fn dilated(row: u8, elsewhere: u16) -> Result<u8, Refusal> {
+    let input = elements::input_on(7, 1);
     let sheet = [row];
     let map = [elsewhere, 0, elsewhere, elsewhere, elsewhere, 1, elsewhere];
     let mut work = [9u16; 27];
     let mut out = [0u8; 1];
-    let _refusal = maps::dilate_by_map(input, &sheet, &PAIR, 1, &map, &mut work, &mut out);
-    out[0]
+    maps::dilate_by_map(input, &sheet, &PAIR, 1, &map, &mut work, &mut out)?;
+    Ok(out[0])
 }
 
 // The same byte with the padding bit unset and set, and with small and large sizes at the background points.
-pub fn say_perspective(rt: &impl Print) -> io::Result<()> {
-    lines::say(rt, b"two points, sizes 0 and 1", dilated(68, 0) as u32)?;
-    lines::say(
-        rt,
-        b"two points, padding bit set, 65535 elsewhere",
-        dilated(69, 65535) as u32,
-    )
+pub fn say_perspective(rt: &impl Print) -> Result<()> {
+    println!(rt; "two points, sizes 0 and 1: {}", dilated(68, 0)?)?;
+    println!(rt;
+        "two points, padding bit set, 65535 elsewhere: {}",
+        dilated(69, 65535)?
+    )?;
+    Ok(())
 }

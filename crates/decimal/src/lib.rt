@@ -1,8 +1,8 @@
 // Numbers as decimal digits, written and read for every file format.
 #![tactic(auto)]
 
-ghost use Rattle.std.specs.Prelude.{◌≡◌, true, ◌+◌, ◌-◌, ◌*◌, ◌<◌, ◌≤◌, min, length, drop};
-ghost use Rattle.decimal.specs.Numbers.{is_digit, value, digits, digit_run, written};
+ghost use Rattle.std.specs.Prelude.{◌≡◌, ◌+◌, ◌<◌, ◌≤◌, min, length, drop};
+ghost use Rattle.decimal.specs.Numbers.{value, digits, digit_run, written};
 
 // How many digits `n` has.
 pub fn digit_count(n: usize) -> usize

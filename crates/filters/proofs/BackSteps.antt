@@ -17,17 +17,18 @@ use Rattle.sheet.specs.Sheets.{packed}
 use Rattle.scan.specs.Scan.{scan_rows}
 use Rattle.scan.proofs.ScanLaws.{rows_length}
 use Rattle.run.specs.declared.Record.{Record}
+use Rattle.run.specs.declared.kinds.Bounds.{Bounds}
+use Rattle.run.specs.declared.records.Frame.{Frame}
 use Rattle.run.specs.Kinds.{on_of, off_of, is_held_at}
-use Rattle.run.specs.Records.{margin, area_width, area_height, area_of, due, foreign, record_bad}
-use Rattle.run.specs.Continuing.{continue_refusals, Continues}
-use Rattle.run.specs.Patches.{Patch, Canvas, level_in, held_between, low_of, high_of}
+use Rattle.run.specs.Records.{margin, frame_of, area_width, area_height, area_of, due, foreign, record_bad}
+use Rattle.run.specs.Continuing.{State, continue_refusals, Continues}
+use Rattle.run.specs.Patches.{Canvas, level_in, held_between, bounds_of}
 use Rattle.run.specs.Pictures.{frame_level}
 use Rattle.run.specs.Demand2.{finished}
 use Rattle.run.proofs.RecordLaws.{sound}
 use Rattle.run.proofs.ContinueLaws.{continue_accept}
 use Rattle.run.proofs.PictureAnswers.{held_level}
-use Rattle.filters.specs.declared.back.HeldPart.{HeldPart}
-use Rattle.filters.specs.Back.{back, back_start, way_back, kept_sheet, IsHeldPart, Ready, chosen}
+use Rattle.filters.specs.Back.{back, back_start, way_back, kept_sheet, HoldsAfter, Ready, chosen}
 use Rattle.filters.proofs.BackLaws.{back_width, back_height, back_taken}
 
 -- one continue by the most rows finishes a run
@@ -42,13 +43,15 @@ module _ (r : Record) (taken : foreign r ≡ false) (fresh : r.rows ≡ 0) (leve
       (rw (eq-eqb (length levels) (area_height r * area_width r) size))
       (omega arith))
 
-  pub finish_rows : {number : ℕ} {next : Record} {done : Bool} {after : List ℕ} {lowered : ℕ}
-      → Continues r levels most_rows number ((next, done, after), lowered) → after ≡ finished r levels
-  finish_rows a =
-      let q = a.accepted (a.refusal ∙ continue_taken) in
-      let s = (sound r taken).area_high in
-      let w : min most_rows (due r - r.rows) ≡ due r = let f = fresh in omega arith in
-      ap (λ t. t.0.2) q ∙ ap₂ (λ d n. scan_rows (area_of r) d n levels) fresh w
+  module _ {number : ℕ} {after : State × ℕ} (a : Continues r levels most_rows number after) where
+    pub finish_accepted : number ≡ 0
+    finish_accepted = a.refusal ∙ continue_taken
+
+    pub finish_rows : after.0.2 ≡ finished r levels
+    finish_rows =
+        let s = (sound r taken).area_high in
+        let w : min most_rows (due r - r.rows) ≡ due r = let f = fresh in omega arith in
+        ap (λ t. t.0.2) (a.accepted finish_accepted) ∙ ap₂ (λ d n. scan_rows (area_of r) d n levels) fresh w
 
 -- the record of the way back
 pub back_record : (r : Record) (kind width height : ℕ) (cells : List ℕ) → kind ≡ cond (eqb r.kind 1) 2 1 → width ≡ area_width r
@@ -78,18 +81,26 @@ chosen_held low high level held e on off = rw e (go held)
     go true = refl
     go false = refl
 
+-- so where a test says whether it is held
+module _ (bounds : Bounds) (level on off : ℕ) {held : Bool} (e : cond held 1 0 ≡ held_between bounds.low bounds.high level) where
+  pub chosen_on : held ≡ true → on ≡ chosen bounds.low bounds.high on off level
+  chosen_on t = sym (chosen_held bounds.low bounds.high level held (sym e) on off ∙ ap (λ t. cond t on off) t)
+
+  pub chosen_off : held ≡ false → off ≡ chosen bounds.low bounds.high on off level
+  chosen_off t = sym (chosen_held bounds.low bounds.high level held (sym e) on off ∙ ap (λ t. cond t on off) t)
+
 -- marking gives the start of the way back
-pub start_is : (r other : Record) → foreign r ≡ false → other ≡ back r → (n : ℕ) → n ≤ largest_size → {low high on off : ℕ}
-    → low ≡ low_of r n → high ≡ high_of r n → on ≡ on_of other → off ≡ off_of other → (first : List ℕ) {marked : List ℕ}
-    → marked ≡ table (length first) (λ k. chosen low high on off (get_or first k 0)) → marked ≡ back_start r first n
+pub start_is : (r other : Record) → foreign r ≡ false → other ≡ back r → (n : ℕ) → n ≤ largest_size → {bounds : Bounds} {on off : ℕ}
+    → bounds ≡ bounds_of r n → on ≡ on_of other → off ≡ off_of other → (first : List ℕ) {marked : List ℕ}
+    → marked ≡ table (length first) (λ k. chosen bounds.low bounds.high on off (get_or first k 0)) → marked ≡ back_start r first n
 unfolding back_start
-start_is r other taken is n small {low} {high} {on} {off} is_low is_high is_on is_off first e =
+start_is r other taken is n small {bounds} {on} {off} is_bounds is_on is_off first e =
     let p : on ≡ on_of (back r) = is_on ∙ ap on_of is in
     let q : off ≡ off_of (back r) = is_off ∙ ap off_of is in
-    e ∙ table_same (λ k. chosen low high on off (get_or first k 0))
+    e ∙ table_same (λ k. chosen bounds.low bounds.high on off (get_or first k 0))
     (λ k. cond (is_held_at r n (get_or first k 0)) (on_of (back r)) (off_of (back r))) (length first)
-    (λ k _. chosen_held low high (get_or first k 0) (is_held_at r n (get_or first k 0))
-    (ap₂ (λ x y. held_between x y (get_or first k 0)) is_low is_high ∙ held_level (sound r taken) n small (get_or first k 0)) on off
+    (λ k _. chosen_held bounds.low bounds.high (get_or first k 0) (is_held_at r n (get_or first k 0))
+    (rw is_bounds (held_level (sound r taken) n small (get_or first k 0))) on off
     ∙ ap₂ (λ x y. cond (is_held_at r n (get_or first k 0)) x y) p q)
 
 -- and it may be finished
@@ -101,36 +112,22 @@ back_ready {r} {first = first} n given is e = rw (is, e) (
   (refl, start_length r first n ∙ given.first_size ∙ sym (ap₂ (λ h w. h * w) (back_height r) (back_width r))),
 )
 
--- the frame of the levels after the way back
-pub part_canvas : {r : Record} {second : List ℕ} {n : ℕ} {part : HeldPart} → foreign r ≡ false
-    → length second ≡ area_height r * area_width r → IsHeldPart r n part → Canvas r.width r.height part.margin second
-part_canvas {r} taken size p =
-    rw p.margin_is (record { wide = (sound r taken).area_wide; high = (sound r taken).area_high; room = size })
+-- the bounds after the way back are those of its record
+pub held_after : (r other : Record) → foreign r ≡ false → other ≡ back r → (n : ℕ) → n ≤ largest_size → {bounds : Bounds}
+    → bounds ≡ bounds_of other n → HoldsAfter r n bounds
+held_after r other taken is n small e level = rw (e, is) (held_level (sound (back r) (back_taken r taken)) n small level)
 
-pub held_part_is : (r other : Record) → foreign r ≡ false → other ≡ back r → (n : ℕ) → n ≤ largest_size → {m low high : ℕ}
-    → m ≡ margin r → low ≡ low_of other n → high ≡ high_of other n
-    → IsHeldPart r n (record { margin = m; low = low; high = high })
-held_part_is r other taken is n small {m} {low} {high} e p q = record {
-  margin_is = e;
-  held = λ level.
-      ap₂ (λ x y. held_between x y level) (p ∙ ap (λ x. low_of x n) is) (q ∙ ap (λ x. high_of x n) is)
-      ∙ held_level (sound (back r) (back_taken r taken)) n small level;
-}
+-- the frame of the levels after it
+pub back_canvas : (r : Record) {second : List ℕ} → foreign r ≡ false → length second ≡ area_height r * area_width r
+    → Canvas r.width r.height (margin r) second
+back_canvas r taken size = record { wide = (sound r taken).area_wide; high = (sound r taken).area_high; room = size }
 
 -- packing it gives the sheet kept
-pub kept_is : (r : Record) (n : ℕ) (second : List ℕ) {part : HeldPart} → IsHeldPart r n part → {out : List ℕ}
-    → out ≡ packed r.width r.height
-    (λ row col. held_between part.low part.high (level_in r.width part.margin second row col))
+pub kept_is : (r : Record) (n : ℕ) (second : List ℕ) {frame : Frame} → frame ≡ frame_of r → (bounds : Bounds) → HoldsAfter r n bounds
+    → {out : List ℕ}
+    → out ≡ packed frame.width frame.height
+    (λ row col. held_between bounds.low bounds.high (level_in frame.width frame.margin second row col))
     → out ≡ kept_sheet r second n
 unfolding kept_sheet
-kept_is r n second {part} p h =
-    h ∙ ap (λ k. packed r.width r.height
-    (λ row col. held_between part.low part.high (level_in r.width k second row col))) p.margin_is
-    ∙ ap (λ f. packed r.width r.height f) (fun_ext (λ row. fun_ext (λ col. p.held (frame_level r second row col))))
-
--- a buffer filled with 0
-pub all_zero : {buffer after : List ℕ} → Patch 0 (length buffer) (λ _. 0) buffer after → after ≡ replicate (length buffer) 0
-all_zero {buffer} {after} P =
-    ext_get_or 0 after (replicate (length buffer) 0) (P.size ∙ sym (length-replicate (length buffer) 0))
-    (λ k l. ap (λ j. get_or after j 0) (sym (zero-add k)) ∙ P.inside k (let s = P.size in omega arith)
-    ∙ sym (get_or-replicate (length buffer) k 0 0 (let s = P.size in omega arith)))
+kept_is r n second q bounds p e =
+    (rw q at e) ∙ ap (λ f. packed r.width r.height f) (fun_ext (λ row. fun_ext (λ col. p (frame_level r second row col))))

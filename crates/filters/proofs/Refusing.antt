@@ -13,8 +13,11 @@ use lib.Dec.{T, eqb, ltb}
 use lib.ListN.{length}
 use borrow.Author.Tests.{lt-ltb, le-ltb, ltb-false, eq-eqb, ne_eqb, eqb-true, not-false}
 use Rattle.basics.specs.Limits.{longest_side, largest_size, highest_cap}
-use Rattle.basics.specs.Refusals.{Refusal, first, Answers}
-use Rattle.basics.proofs.RefusalLaws.{numbered, judged_first, judged_next, first_refused, first_accepted, first_both, passed}
+use Rattle.std.specs.Prelude.{Result, Ok, Err}
+use Rattle.std.specs.Result.{IsOk}
+use Rattle.basics.specs.declared.refusal.Refusal as declared
+use Rattle.basics.specs.Refusals.{Refusal, first, number, Answers}
+use Rattle.basics.proofs.RefusalLaws.{numbered, number_positive, judged_first, judged_next, first_refused, first_accepted, first_both, passed}
 use Rattle.grid.specs.Figures.{reach}
 use Rattle.sheet.specs.Sheets.{row_bytes}
 use Rattle.run.specs.Records.{margin_of, canvas_side}
@@ -27,6 +30,11 @@ use Rattle.filters.specs.Filters.{Buffers, input_refusals, is_canvas_wrong, is_o
 use Rattle.filters.specs.Filters.{Opens, Closes, OpeningLevels, ClosingLevels}
 use Rattle.filters.specs.Plans.{limit_of, cap_of, entries_of, start_refusals, work_refusals, plan_refusals}
 use Rattle.filters.specs.Plans.{SheetAnswered, LevelsAnswered}
+
+-- a result without a refusal has a value
+pub has_value : {A : Type 0} (result : Result A declared.Refusal) → number result ≡ 0 → IsOk result
+has_value (Ok value) e = refl
+has_value (Err refusal) e = absurd (number_positive refusal e)
 
 -- a plan by its fields
 abbrev pub plan_of : Bool → ℕ → Bool → Plan

@@ -4,12 +4,12 @@ use Rattle.std.specs.Prelude.{ℕ, ◌+◌, ◌-◌, ◌*◌, ◌≤◌, ◌<◌
 use Rattle.basics.specs.Tables.{table, raster}
 use Rattle.sheet.specs.Sheets.{packed}
 use Rattle.run.specs.declared.Record.{Record}
+use Rattle.run.specs.declared.kinds.Bounds.{Bounds}
 use Rattle.run.specs.Kinds.{erosion_kind, dilation_kind, background_beyond, on_of, off_of, is_held_at}
 use Rattle.run.specs.Records.{margin, area_width, area_height, foreign}
 use Rattle.run.specs.Patches.{held_between}
 use Rattle.run.specs.Pictures.{frame_level}
 use Rattle.run.specs.Demand2.{finished}
-use Rattle.filters.specs.declared.back.HeldPart.{HeldPart}
 
 -- the run of the other kind; its frame is the whole area, so it has no margin of its own
 abbrev pub back : Record → Record
@@ -61,10 +61,9 @@ pub record Ready (r : Record) (first second : List ℕ) : Type 0 where
   pub first_size : length first ≡ area_height r * area_width r
   pub second_size : length second ≡ area_height r * area_width r
 
--- the frame lies within the margin, and the levels between two bounds are those that are held after the way back
-pub record IsHeldPart (r : Record) (n : ℕ) (part : HeldPart) : Type 0 where
-  pub margin_is : part.margin ≡ margin r
-  pub held : (level : ℕ) → held_between part.low part.high level ≡ cond (is_held_at (back r) n level) 1 0
+-- the levels between the bounds are those that are held after the way back
+abbrev pub HoldsAfter : Record → ℕ → Bounds → Type 0
+HoldsAfter r n bounds = (level : ℕ) → held_between bounds.low bounds.high level ≡ cond (is_held_at (back r) n level) 1 0
 
 -- on where a level is above low and at most high, else off
 abbrev pub chosen : ℕ → ℕ → ℕ → ℕ → ℕ → ℕ

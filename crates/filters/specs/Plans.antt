@@ -8,6 +8,7 @@ use Rattle.grid.specs.Levels.{IsOpeningLevel, IsClosingLevel}
 use Rattle.sheet.specs.Sheets.{row_bytes}
 use Rattle.run.specs.declared.Record.{Record}
 use Rattle.run.specs.declared.kinds.Kind.TheVariants.{Eroding, Dilating}
+use Rattle.run.specs.Records.{empty_record}
 use Rattle.run.specs.Starting.{start_record, start_levels, canvas_refusals}
 use Rattle.run.specs.Demand2.{finished}
 use Rattle.run.specs.declared.Input.{Input}
@@ -103,6 +104,12 @@ FindsLevels r levels plan out =
     (input : Input) (sheet bytes : List ℕ) → FirstRun input sheet bytes plan r levels
     → AreLevels r.width r.height
     (IsFilterLevel plan.closing plan.size (foreground_of input sheet) (element_of input bytes)) out
+
+-- THE ANSWERS: the first run of an accepted plan, with no record beside a refusal; the sheet, and the levels
+abbrev pub FirstAnswered : Input → List ℕ → List ℕ → Plan → Lengths → List ℕ → ℕ → Record × List ℕ → Type 0
+FirstAnswered input sheet bytes plan lent levels =
+    Answers (plan_refusals input sheet bytes plan lent) (empty_record, levels)
+    (λ after. (after.0 ≡ first_record input bytes plan) × (after.1 ≡ first_levels input sheet bytes plan))
 
 abbrev pub SheetAnswered : Input → List ℕ → List ℕ → Plan → Buffers → ℕ → Buffers → Type 0
 SheetAnswered input sheet bytes plan lent =

@@ -1,11 +1,14 @@
 // The answer to a plan: it is judged, its first run is finished, and the way back is taken from there.
 ghost use Rattle.std.specs.Prelude.{◌≡◌, true, false, length};
-ghost use Rattle.basics.specs.Refusals.{first};
-ghost use Rattle.filters.specs.Plans.{start_refusals, first_record, first_start, first_levels, SheetAnswered, LevelsAnswered};
+ghost use Rattle.basics.specs.Refusals.{first, number, value_or};
+ghost use Rattle.run.specs.Records.{empty_record};
+ghost use Rattle.filters.specs.Plans.{start_refusals, first_record, first_start, first_levels};
+ghost use Rattle.filters.specs.Plans.{FirstAnswered, SheetAnswered, LevelsAnswered};
 
 use super::judging::{Lengths, Plan};
 use super::{Input, back, judging, levels};
-use run::Record;
+use basics::Refusal;
+use run::{Record, starting};
 
 // Starts the first run: a dilation on the canvas of a closing's size, or an erosion of the frame.
 fn start_run(input: Input, sheet: &[u8], bytes: &[u8], plan: Plan, levels: &mut [u16]) -> Record
@@ -13,17 +16,11 @@ fn start_run(input: Input, sheet: &[u8], bytes: &[u8], plan: Plan, levels: &mut 
     ensures { (result ≡ first_record input bytes.now plan) ×
         (levels.new ≡ first_start input sheet.now bytes.now plan) }
 {
-    let width = input.width;
-    let height = input.height;
     if plan.closing {
-        let cap = judging::cap_of(plan);
-        let dilation = run::starting::start_dilation(
-            width, height, sheet, input.side, bytes, cap, levels,
-        );
-        return dilation.run;
+        starting::start_dilation(input, sheet, bytes, judging::cap_of(plan), levels).unwrap()
+    } else {
+        starting::start_erosion(input, sheet, bytes, levels).unwrap()
     }
-    let erosion = run::starting::start_erosion(width, height, sheet, input.side, bytes, levels);
-    erosion.run
 }
 
 // The first run, all its rows worked.
@@ -37,6 +34,29 @@ pub fn first_run(input: Input, sheet: &[u8], bytes: &[u8], plan: Plan, levels: &
     run
 }
 
+// The same where the plan is accepted.
+fn accepted_run(
+    input: Input,
+    sheet: &[u8],
+    bytes: &[u8],
+    plan: Plan,
+    levels: &mut [u16],
+    second: usize,
+    out: usize,
+) -> Result<Record, Refusal>
+    ensures { FirstAnswered input sheet.now bytes.now plan
+        (record { first = length levels.old; second = second; out = out }) levels.old
+        (number result) (value_or empty_record result, levels.new) }
+{
+    let lent = Lengths {
+        first: levels.len(),
+        second,
+        out,
+    };
+    judging::check_filter(input, sheet, bytes, plan, lent)?;
+    Ok(first_run(input, sheet, bytes, plan, levels))
+}
+
 // Fills `out` with the sheet that a plan asks for.
 pub fn answer_sheet(
     input: Input,
@@ -46,24 +66,15 @@ pub fn answer_sheet(
     first: &mut [u16],
     second: &mut [u16],
     out: &mut [u8],
-) -> u32
+) -> Result<(), Refusal>
     requires { plan.packed ≡ true }
     ensures { SheetAnswered input sheet.now bytes.now plan
-        (record { first = first.entry.now; second = second.old; out = out.old }) result
-        (record { first = first.exit.now; second = second.new; out = out.new }) }
+        (record { first = first.old; second = second.old; out = out.old }) (number result)
+        (record { first = first.new; second = second.new; out = out.new }) }
 {
-    let lent = Lengths {
-        first: first.len(),
-        second: second.len(),
-        out: out.len(),
-    };
-    let refusal = judging::filter_refusal(input, sheet, bytes, plan, lent);
-    if refusal != 0 {
-        return refusal;
-    }
-    let run = first_run(input, sheet, bytes, plan, first);
+    let run = accepted_run(input, sheet, bytes, plan, first, second.len(), out.len())?;
     back::filter_sheet(run, plan.size, first, second, out);
-    0
+    Ok(())
 }
 
 // Fills `out` with the levels that a plan asks for.
@@ -75,22 +86,13 @@ pub fn answer_levels(
     first: &mut [u16],
     second: &mut [u16],
     out: &mut [u16],
-) -> u32
+) -> Result<(), Refusal>
     requires { plan.packed ≡ false }
     ensures { LevelsAnswered input sheet.now bytes.now plan
-        (record { first = first.entry.now; second = second.old; out = out.old }) result
-        (record { first = first.exit.now; second = second.new; out = out.new }) }
+        (record { first = first.old; second = second.old; out = out.old }) (number result)
+        (record { first = first.new; second = second.new; out = out.new }) }
 {
-    let lent = Lengths {
-        first: first.len(),
-        second: second.len(),
-        out: out.len(),
-    };
-    let refusal = judging::filter_refusal(input, sheet, bytes, plan, lent);
-    if refusal != 0 {
-        return refusal;
-    }
-    let run = first_run(input, sheet, bytes, plan, first);
+    let run = accepted_run(input, sheet, bytes, plan, first, second.len(), out.len())?;
     levels::filter_levels(run, plan, first, second, out);
-    0
+    Ok(())
 }

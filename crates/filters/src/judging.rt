@@ -1,18 +1,28 @@
 // What a call asks for, and what it is refused for: one judge for the four.
 ghost use Rattle.std.specs.Prelude.{◌≡◌, ◌≤◌};
 ghost use Rattle.basics.specs.Limits.{longest_side};
-ghost use Rattle.basics.specs.Refusals.{first};
+ghost use Rattle.basics.specs.Refusals.{first, number};
 ghost use Rattle.filters.specs.Plans.{limit_of, cap_of, entries_of, start_refusals, work_refusals, plan_refusals};
 
 use super::Input;
+use basics::Refusal;
+use run::starting;
 
-// An opening or a closing, by a size or up to a cap, into a packed sheet or into levels. Opening levels have no size to ask for:
-// theirs is 0.
+// An opening or a closing, by a size or up to a cap, into a packed sheet or into levels.
 #[derive(Clone, Copy)]
 pub struct Plan {
     pub closing: bool,
     pub size: usize,
     pub packed: bool,
+}
+
+impl Plan {
+    // Opening levels, which have no size to ask for.
+    pub const OPENING_LEVELS: Plan = Plan {
+        closing: false,
+        size: 0,
+        packed: false,
+    };
 }
 
 // The lengths of the two work buffers and of the output.
@@ -28,19 +38,17 @@ fn limit_of(plan: Plan) -> usize
     ensures { result ≡ limit_of plan }
 {
     if plan.closing {
-        return basics::HIGHEST_CAP;
+        basics::HIGHEST_CAP
+    } else {
+        basics::LARGEST_SIZE
     }
-    basics::LARGEST_SIZE
 }
 
 // The cap of the first run, whose canvas holds all that a closing dilates to; an opening stays in the frame.
 pub fn cap_of(plan: Plan) -> usize
     ensures { result ≡ cap_of plan }
 {
-    if plan.closing {
-        return plan.size;
-    }
-    0
+    if plan.closing { plan.size } else { 0 }
 }
 
 // The entries of a row of the output: bytes of a packed sheet, or levels.
@@ -49,56 +57,60 @@ fn row_entries(packed: bool, width: usize) -> usize
     ensures { (result ≡ entries_of packed width) × (result ≤ longest_side) }
 {
     if packed {
-        return sheet::row_bytes(width);
+        sheet::row_bytes(width)
+    } else {
+        width
     }
-    width
 }
 
-// Refusals 2 to 10 of the first run, with so many levels, or 0.
-fn first_refusal(input: Input, sheet: &[u8], bytes: &[u8], plan: Plan, count: usize) -> u32
-    ensures { result ≡ first (start_refusals input sheet.now bytes.now plan count) }
+// Refusals 2 to 10 of the first run, with so many levels.
+fn check_first(
+    input: Input,
+    sheet: &[u8],
+    bytes: &[u8],
+    plan: Plan,
+    count: usize,
+) -> Result<(), Refusal>
+    ensures { number result ≡ first (start_refusals input sheet.now bytes.now plan count) }
 {
-    let refusal = run::starting::start_refusal(input.width, input.height, sheet, input.side, bytes);
-    if refusal != 0 {
-        return refusal;
-    }
+    starting::check_start(input, sheet, bytes)?;
     if limit_of(plan) < plan.size {
-        return 8;
+        return Err(Refusal::Size);
     }
-    run::starting::canvas_refusal(input.width, input.height, cap_of(plan), input.side, count)
+    starting::check_canvas(input, cap_of(plan), count)
 }
 
-// The same with the second work buffer, or 0.
-pub fn work_refusal(
+// The same with the second work buffer.
+pub fn check_work(
     input: Input,
     sheet: &[u8],
     bytes: &[u8],
     plan: Plan,
     count: usize,
     second: usize,
-) -> u32
-    ensures { result ≡ first (work_refusals input sheet.now bytes.now plan count second) }
+) -> Result<(), Refusal>
+    ensures { number result ≡ first (work_refusals input sheet.now bytes.now plan count second) }
 {
-    let refusal = first_refusal(input, sheet, bytes, plan, count);
-    if refusal != 0 {
-        return refusal;
-    }
+    check_first(input, sheet, bytes, plan, count)?;
     if second != count {
-        return 10;
+        return Err(Refusal::LevelsLength);
     }
-    0
+    Ok(())
 }
 
-// Refusals 2 to 11, or 0.
-pub fn filter_refusal(input: Input, sheet: &[u8], bytes: &[u8], plan: Plan, lent: Lengths) -> u32
-    ensures { result ≡ first (plan_refusals input sheet.now bytes.now plan lent) }
+// Refusals 2 to 11.
+pub fn check_filter(
+    input: Input,
+    sheet: &[u8],
+    bytes: &[u8],
+    plan: Plan,
+    lent: Lengths,
+) -> Result<(), Refusal>
+    ensures { number result ≡ first (plan_refusals input sheet.now bytes.now plan lent) }
 {
-    let refusal = work_refusal(input, sheet, bytes, plan, lent.first, lent.second);
-    if refusal != 0 {
-        return refusal;
-    }
+    check_work(input, sheet, bytes, plan, lent.first, lent.second)?;
     if lent.out != input.height * row_entries(plan.packed, input.width) {
-        return 11;
+        return Err(Refusal::OutputLength);
     }
-    0
+    Ok(())
 }

@@ -1,70 +1,48 @@
 // Levels by going through the sizes: each size that holds a point is written over what was found before.
-ghost use Rattle.std.specs.Prelude.{◌≡◌, false, ◌+◌, ◌*◌, ◌≤◌, ◌<◌, max, length, get_or, replicate};
+ghost use Rattle.std.specs.Prelude.{◌≡◌, false, ◌+◌, ◌*◌, ◌≤◌, ◌<◌, length, get_or, replicate};
 ghost use Rattle.basics.specs.Limits.{largest_size};
-ghost use Rattle.basics.specs.Tables.{raster};
+ghost use Rattle.basics.specs.Tables.{table, raster};
 ghost use Rattle.run.specs.Records.{area_width, area_height, foreign};
-ghost use Rattle.run.specs.Patches.{Patch, Canvas, level_in};
+ghost use Rattle.run.specs.Patches.{Canvas, level_in};
 ghost use Rattle.filters.specs.Back.{chosen, stored, size_at, Highest, Ready};
 ghost use Rattle.filters.specs.Plans.{Bounded, Counted, FindsSize, FindsLevels};
 
 use super::back;
 use super::judging::Plan;
 use run::Record;
+use run::kinds::Bounds;
+use run::records::{self, Frame};
 
-// The `n` levels of `out` from `at` on become `value` where those from `from` on are held.
-fn store_row(
-    levels: &[u16],
-    from: usize,
-    n: usize,
-    low: u16,
-    high: u16,
-    value: u16,
-    out: &mut [u16],
-    at: usize,
-)
-    requires { (from + n ≤ length levels.now) × (at + n ≤ length out.old) }
-    ensures { Patch at n
-        (λ i. chosen low high value (get_or out.old (at + i) 0) (get_or levels.now (from + i) 0))
-        out.old out.new }
+// The entries of `out` become `value` where the levels are held. Each is stored, so that no store hangs on a level.
+fn store_row(levels: &[u16], bounds: Bounds, value: u16, out: &mut [u16])
+    requires { length out.old ≡ length levels.now }
+    ensures { out.new ≡ table (length levels.now)
+        (λ i. chosen bounds.low bounds.high value (get_or out.old i 0) (get_or levels.now i 0)) }
 {
-    let mut i = 0;
-    while i < n {
-        let level = back::choose(levels[from + i], low, high, value, out[at + i]);
-        out[at + i] = level;
-        i += 1;
+    for i in 0..levels.len() {
+        out[i] = if bounds.hold(levels[i]) {
+            value
+        } else {
+            out[i]
+        };
     }
 }
 
 // The same for all rows of the frame's part of the levels.
-fn store_rows(
-    levels: &[u16],
-    width: usize,
-    height: usize,
-    margin: usize,
-    low: u16,
-    high: u16,
-    value: u16,
-    out: &mut [u16],
-)
-    requires { Canvas width height margin levels.now × (length out.old ≡ height * width) }
-    ensures { out.new
-        ≡ raster width height (λ row col. chosen low high value (get_or out.old (row * width + col) 0)
-        (level_in width margin levels.now row col)) }
+fn store_frame(levels: &[u16], frame: Frame, bounds: Bounds, value: u16, out: &mut [u16])
+    requires { Canvas frame.width frame.height frame.margin levels.now × (length out.old ≡ frame.height * frame.width) }
+    ensures { out.new ≡ raster frame.width frame.height
+        (λ row col. chosen bounds.low bounds.high value (get_or out.old (row * frame.width + col) 0)
+        (level_in frame.width frame.margin levels.now row col)) }
 {
-    let side = width + (margin + margin);
-    let mut row = 0;
-    while row < height {
+    for row in 0..frame.height {
+        let at = row * frame.width;
         store_row(
-            levels,
-            (row + margin) * side + margin,
-            width,
-            low,
-            high,
+            frame.row(levels, row),
+            bounds,
             value,
-            out,
-            row * width,
+            &mut out[at..at + frame.width],
         );
-        row += 1;
     }
 }
 
@@ -74,18 +52,9 @@ fn store_held(run: Record, size: usize, second: &[u16], out: &mut [u16])
         (length out.old ≡ run.height * run.width))) }
     ensures { out.new ≡ stored run second.now size out.old }
 {
-    let part = back::held_part(run, size);
+    let bounds = back::back_bounds(run, size);
     let value = size as u16 + 1;
-    store_rows(
-        second,
-        run.width,
-        run.height,
-        part.margin,
-        part.low,
-        part.high,
-        value,
-        out,
-    );
+    store_frame(second, records::frame_of(run), bounds, value, out);
 }
 
 // Stores one size.
@@ -104,10 +73,7 @@ fn size_at(closing: bool, count: usize, k: usize) -> usize
     requires { k < count }
     ensures { result ≡ size_at closing count k }
 {
-    if closing {
-        return count - 1 - k;
-    }
-    k
+    if closing { count - 1 - k } else { k }
 }
 
 // The sizes below `count`, one after the other, over levels that are 0.
@@ -123,28 +89,18 @@ fn go_through(
         (out.old ≡ replicate (run.height * run.width) 0))) }
     ensures { FindsLevels run first.now plan out.new }
 {
-    let mut k = 0;
-    while k < count {
+    for k in 0..count {
         one_size(run, size_at(plan.closing, count, k), first, second, out);
-        k += 1;
     }
 }
 
-fn greater(a: u16, b: u16) -> u16
-    ensures { result ≡ max a b }
-{
-    if a < b { b } else { a }
-}
-
-// The highest of the levels.
+// The highest of the levels, or 0 where there is none.
 pub fn highest(levels: &[u16]) -> u16
     ensures { Highest levels.now (length levels.now) result }
 {
     let mut most = 0;
-    let mut k = 0;
-    while k < levels.len() {
-        most = greater(most, levels[k]);
-        k += 1;
+    for &level in levels {
+        most = level.max(most);
     }
     most
 }
@@ -156,20 +112,10 @@ fn count_of(plan: Plan, levels: &[u16]) -> usize
     ensures { Counted plan levels.now result }
 {
     if plan.closing {
-        return plan.size + 1;
+        plan.size + 1
+    } else {
+        usize::from(highest(levels))
     }
-    highest(levels) as usize
-}
-
-// All sizes, over levels that are 0.
-fn all_sizes(run: Record, plan: Plan, first: &[u16], second: &mut [u16], out: &mut [u16])
-    requires { Ready run first.now second.old × (Bounded plan first.now ×
-        (length out.old ≡ run.height * run.width)) }
-    ensures { FindsLevels run first.now plan out.new }
-{
-    back::clear(out);
-    let count = count_of(plan, first);
-    go_through(run, plan, count, first, second, out);
 }
 
 // The levels of a plan from its finished first run; both work buffers are cleared.
@@ -186,6 +132,9 @@ pub fn filter_levels(
         ((second.new ≡ replicate (length second.old) 0) ×
         FindsLevels run first.old plan out.new) }
 {
-    all_sizes(run, plan, first, second, out);
-    back::clear_both(first, second);
+    out.fill(0);
+    let count = count_of(plan, first);
+    go_through(run, plan, count, first, second, out);
+    first.fill(0);
+    second.fill(0);
 }

@@ -6,8 +6,10 @@ pub mod back;
 pub mod judging;
 pub mod levels;
 
+ghost use Rattle.basics.specs.Refusals.{number};
 ghost use Rattle.filters.specs.Filters.{Opens, Closes, OpeningLevels, ClosingLevels};
 
+use basics::Refusal;
 pub use run::Input;
 
 // Public: fills `out` with the sheet opened by a size. Refusals 2 to 8, 10, 11.
@@ -19,10 +21,10 @@ pub fn open(
     first: &mut [u16],
     second: &mut [u16],
     out: &mut [u8],
-) -> u32
+) -> Result<(), Refusal>
     ensures { Opens input sheet.now bytes.now size
-        (record { first = first.entry.now; second = second.old; out = out.old }) result
-        (record { first = first.exit.now; second = second.new; out = out.new }) }
+        (record { first = first.old; second = second.old; out = out.old }) (number result)
+        (record { first = first.new; second = second.new; out = out.new }) }
 {
     let plan = judging::Plan {
         closing: false,
@@ -41,10 +43,10 @@ pub fn close(
     first: &mut [u16],
     second: &mut [u16],
     out: &mut [u8],
-) -> u32
+) -> Result<(), Refusal>
     ensures { Closes input sheet.now bytes.now size
-        (record { first = first.entry.now; second = second.old; out = out.old }) result
-        (record { first = first.exit.now; second = second.new; out = out.new }) }
+        (record { first = first.old; second = second.old; out = out.old }) (number result)
+        (record { first = first.new; second = second.new; out = out.new }) }
 {
     let plan = judging::Plan {
         closing: true,
@@ -62,16 +64,12 @@ pub fn opening_levels(
     first: &mut [u16],
     second: &mut [u16],
     out: &mut [u16],
-) -> u32
+) -> Result<(), Refusal>
     ensures { OpeningLevels input sheet.now bytes.now
-        (record { first = first.entry.now; second = second.old; out = out.old }) result
-        (record { first = first.exit.now; second = second.new; out = out.new }) }
+        (record { first = first.old; second = second.old; out = out.old }) (number result)
+        (record { first = first.new; second = second.new; out = out.new }) }
 {
-    let plan = judging::Plan {
-        closing: false,
-        size: 0,
-        packed: false,
-    };
+    let plan = judging::Plan::OPENING_LEVELS;
     answering::answer_levels(input, sheet, bytes, plan, first, second, out)
 }
 
@@ -84,10 +82,10 @@ pub fn closing_levels(
     first: &mut [u16],
     second: &mut [u16],
     out: &mut [u16],
-) -> u32
+) -> Result<(), Refusal>
     ensures { ClosingLevels input sheet.now bytes.now cap
-        (record { first = first.entry.now; second = second.old; out = out.old }) result
-        (record { first = first.exit.now; second = second.new; out = out.new }) }
+        (record { first = first.old; second = second.old; out = out.old }) (number result)
+        (record { first = first.new; second = second.new; out = out.new }) }
 {
     let plan = judging::Plan {
         closing: true,

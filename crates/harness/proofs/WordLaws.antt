@@ -1,16 +1,19 @@
 -- A record as words: what is known of words that hold one, and the stores that write one.
 -- Words that a record was written to give that record back.
-use Prim.Native.Nat.{ℕ, ◌+◌, ◌≤◌, ◌<◌}
+use Prim.Native.Nat.{ℕ, zero, suc, ◌+◌, ◌≤◌, ◌<◌}
+use native.Mathlib.Decide.{ℕ_discrete}
 use native.Mathlib.Nat.{le_of_eq}
 use native.Mathlib.Numerals.{add-one}
 use native.Mathlib.Omega.{arith}
-use mathlib.Core.Path.{◌≡◌, sym, ap, ap₂, ◌∙◌}
-use mathlib.Core.Bool.{Bool, true, false, not, ◌||◌}
+use Rattle.std.specs.Prelude.{Option, None, Some}
+use mathlib.Core.Path.{◌≡◌, refl, sym, ap, ap₂, ◌∙◌}
+use mathlib.Core.Bool.{Bool, true, false, not, cond, ◌||◌}
 use mathlib.Core.Logic.{◌≢◌}
 use mathlib.Core.List.{List, [], ◌∷◌, ◌++◌}
 use lib.Dec.{eqb, ltb}
-use lib.ListN.{length, get_or, take, drop, set, length-set, length-drop, length-append}
-use lib.Seq.{get_or-take, get_or-drop, take_all, take_at, get_or_at, set_at, length-take-le, paste, paste-zero, paste-suc, sets-eq}
+use lib.ListN.{length, get_or, take, drop, set, length-set, length-drop, length-append, get_or-append}
+use lib.Seq.{get_or-take, get_or-drop, take_at, get_or_at, length-take-le, ext_get_or}
+use Rattle.std.proofs.lemmas.List.{get_or-set_same, get_or-set_other}
 use borrow.Author.Tests.{lt-ltb, le-ltb, eq-eqb, ne_eqb, eqb-true, ltb-false, not-false}
 use Rattle.basics.proofs.BoundLaws.{neither, all_within}
 use Rattle.basics.specs.Bounds.{any_above}
@@ -27,21 +30,6 @@ pub read_written : (r : Record) → length r.cells ≡ record_cells → record_o
 read_written r l = rw (take_at r.cells (r.edge ∷ []) record_cells l, get_or_at r.cells r.edge [] 0 record_cells l)
 
 module _ (words : List ℕ) where
-  -- the tests on the words
-  pub no_record_length : length words ≢ record_words → true ≡ holds_no_record words
-  unfolding holds_no_record
-  no_record_length n = rw (ne_eqb (length words) record_words n)
-
-  module _ (a : length words ≡ record_words) where
-    pub no_record_kind : highest_byte < get_or words 0 0 → true ≡ holds_no_record words
-    unfolding holds_no_record
-    no_record_kind l = rw (eq-eqb (length words) record_words a, lt-ltb highest_byte (get_or words 0 0) l)
-
-    pub no_record_cells : get_or words 0 0 ≤ highest_byte → (t : Bool) → t ≡ any_above highest_byte (drop record_numbers words)
-        → t ≡ holds_no_record words
-    unfolding holds_no_record
-    no_record_cells l t e = rw (eq-eqb (length words) record_words a, le-ltb highest_byte (get_or words 0 0) l) e
-
   -- words that hold a record
   module _ (h : holds_no_record words ≡ false) where
     parts : (not (eqb (length words) record_words) || ltb highest_byte (get_or words 0 0) ≡ false) ×
@@ -74,19 +62,16 @@ module _ (words : List ℕ) where
         (length-take-le record_cells (drop record_numbers words) (let s = bytes_length in omega arith))
         (λ k l. get_or-take record_cells (drop record_numbers words) k 0 l ∙ get_or-drop record_numbers words k 0)
 
-    pub record_is : (cells : List ℕ) (kind edge : ℕ) → cells ≡ take record_cells (drop record_numbers words) → kind ≡ get_or words 0 0
-        → edge ≡ get_or words edge_place 0
-        → record {
-          kind = kind;
-          width = get_or words 1 0;
-          height = get_or words 2 0;
-          cap = get_or words 3 0;
-          side = get_or words 4 0;
-          rows = get_or words 5 0;
-          cells = cells;
-          edge = edge;
-        } ≡ record_of words
-    record_is cells kind edge e f g = rw (e, f, g)
+-- what is read of words that hold a record
+pub record_read : (words : List ℕ) (run : Record)
+    → ◌≡◌ {A = Option Record} (Some run) (cond (holds_no_record words) None (Some (record_of words)))
+    → (holds_no_record words ≡ false) × (run ≡ record_of words)
+record_read words run e = go (holds_no_record words) e
+  where
+    go : (none : Bool) → ◌≡◌ {A = Option Record} (Some run) (cond none None (Some (record_of words)))
+        → (none ≡ false) × (run ≡ record_of words)
+    go true e = absurd (cc)
+    go false e = (refl, cc)
 
 -- A SOUND RECORD IS HELD: the words of a record that the library takes are never refused for themselves
 narrow : (cells : List ℕ) (edge : ℕ) → any_above 1 cells ≡ false → edge ≤ highest_byte
@@ -113,51 +98,57 @@ sound_held r l e =
     small (dilates k e) = (omega arith, omega arith)
     small (crops k e) = (omega arith, omega arith)
 
--- the six numbers, stored one after the other
-pub numbers_stored : (words : List ℕ) (a b c d e f : ℕ) → length words ≡ record_words
-    → set (set (set (set (set (set words 0 a) 1 b) 2 c) 3 d) 4 e) 5 f ≡ a ∷ b ∷ c ∷ d ∷ e ∷ f ∷ drop record_numbers words
-numbers_stored words a b c d e f s = sets-eq (a ∷ b ∷ c ∷ d ∷ e ∷ f ∷ []) words 0 (omega arith)
+-- the six numbers, at the front of the words
+pub record Numbers (r : Record) (words : List ℕ) : Type 0 where
+  pub kind : get_or words 0 0 ≡ r.kind
+  pub width : get_or words 1 0 ≡ r.width
+  pub height : get_or words 2 0 ≡ r.height
+  pub cap : get_or words 3 0 ≡ r.cap
+  pub side : get_or words 4 0 ≡ r.side
+  pub rows : get_or words 5 0 ≡ r.rows
 
--- the last entry of a list, stored
-last_set : (front rest : List ℕ) (n v : ℕ) → length front ≡ n → length rest ≡ 1 → set (front ++ rest) n v ≡ front ++ v ∷ []
-last_set front [] n v l e = absurd (omega arith)
-last_set front (y ∷ []) n v l e = set_at front y [] v n l
-last_set front (y ∷ z ∷ rest) n v l e = absurd (omega arith)
+-- words with a record's numbers, its cells and its edge rule are the record's
+pub words_are : (r : Record) (words : List ℕ) → length words ≡ record_words → length r.cells ≡ record_cells → Numbers r words
+    → ((k : ℕ) → k < record_cells → get_or words (record_numbers + k) 0 ≡ get_or r.cells k 0) → get_or words edge_place 0 ≡ r.edge
+    → words ≡ words_of r
+words_are r words size t h cells edge = ext_get_or 0 words (words_of r) (size ∙ sym long) go
+  where
+    long : length (words_of r) ≡ record_words
+    long = let a = length-append r.cells (r.edge ∷ []) in omega arith
 
--- the cells, stored one a turn
-pub record Stored (words cells : List ℕ) (k : ℕ) (after : List ℕ) : Type 0 where
-  pub below : k ≤ record_cells
-  pub size : length after ≡ record_words
-  pub is : after ≡ paste words record_numbers cells k
+    byte : (k : ℕ) → k < record_cells + 1 → get_or words (record_numbers + k) 0 ≡ get_or (r.cells ++ r.edge ∷ []) k 0
+    byte k l = at (ℕ_discrete k record_cells)
+      where
+        at : Dec (k ≡ record_cells) → get_or words (record_numbers + k) 0 ≡ get_or (r.cells ++ r.edge ∷ []) k 0
+        at (yes e) = rw e (edge ∙ sym (get_or_at r.cells r.edge [] 0 record_cells t))
+        at (no n) = cells k (omega arith) ∙ sym (get_or-append r.cells (r.edge ∷ []) 0 k (omega arith))
 
-module _ (words cells : List ℕ) (s : length words ≡ record_words) (t : length cells ≡ record_cells) where
-  pub stored_none : Stored words cells 0 words
-  stored_none = record { below = omega arith; size = s; is = paste-zero words record_numbers cells }
+    go : (i : ℕ) → i < length words → get_or words i 0 ≡ get_or (words_of r) i 0
+    go zero l = h.kind
+    go (suc zero) l = h.width
+    go (suc (suc zero)) l = h.height
+    go (suc (suc (suc zero))) l = h.cap
+    go (suc (suc (suc (suc zero)))) l = h.side
+    go (suc (suc (suc (suc (suc zero))))) l = h.rows
+    go (suc (suc (suc (suc (suc (suc k)))))) l = ap (λ n. get_or words n 0) (let e : suc (suc (suc (suc (suc (suc k))))) ≡ record_numbers + k = omega arith in e)
+        ∙ byte k (omega arith)
 
-  pub stored_turn : (k : ℕ) (after : List ℕ) (v : ℕ) → Stored words cells k after → k < record_cells → v ≡ get_or cells k 0
-      → Stored words cells (k + 1) (set after (record_numbers + k) v)
-  stored_turn k after v P l e = record {
-    below = omega arith;
-    size = length-set after (record_numbers + k) v ∙ P.size;
-    is = ap₂ (λ m x. set m (record_numbers + k) x) P.is e ∙ paste-suc words record_numbers cells k 0 (omega arith) (omega arith)
-        ∙ ap (λ n. paste words record_numbers cells n) (sym (add-one k));
-  }
-
-  -- and after them the edge rule
-  pub stored_all : (k : ℕ) (after : List ℕ) → Stored words cells k after → record_cells ≤ k → (edge v : ℕ) → v ≡ edge
-      → set after edge_place v ≡ take record_numbers words ++ cells ++ edge ∷ []
-  stored_all k after P l edge v q =
-      let b = P.below in
-      let e : k ≡ record_cells = omega arith in
-      let pasted = P.is ∙ ap (λ n. paste words record_numbers cells n) e
-      ∙ ap (λ (c : List ℕ). take record_numbers words ++ c ++ drop edge_place words) (take_all record_cells cells (le_of_eq t)) in
-      let front = length-append (take record_numbers words) cells in
-      let six = length-take-le record_numbers words (omega arith) in
-      let d = length-drop edge_place words in
-      rw (pasted, q) (last_set (take record_numbers words ++ cells) (drop edge_place words) edge_place edge (omega arith) (omega arith))
-
--- the words of a record, number by number and then byte by byte
-pub record_stored : (r : Record) (words middle after : List ℕ) (kind : ℕ) → kind ≡ r.kind
-    → middle ≡ kind ∷ r.width ∷ r.height ∷ r.cap ∷ r.side ∷ r.rows ∷ drop record_numbers words
-    → after ≡ take record_numbers middle ++ r.cells ++ r.edge ∷ [] → after ≡ words_of r
-record_stored r words middle after kind k m e = e ∙ rw (m, k)
+-- the edge rule, stored last
+pub record_stored : (r : Record) (words : List ℕ) (v : ℕ) → length words ≡ record_words → length r.cells ≡ record_cells → Numbers r words
+    → ((k : ℕ) → k < record_cells → get_or words (record_numbers + k) 0 ≡ get_or r.cells k 0) → v ≡ r.edge
+    → set words edge_place v ≡ words_of r
+record_stored r words v size t h cells e =
+    words_are r (set words edge_place v) (length-set words edge_place v ∙ size) t
+    (record {
+      kind = other 0 (omega arith) ∙ h.kind;
+      width = other 1 (omega arith) ∙ h.width;
+      height = other 2 (omega arith) ∙ h.height;
+      cap = other 3 (omega arith) ∙ h.cap;
+      side = other 4 (omega arith) ∙ h.side;
+      rows = other 5 (omega arith) ∙ h.rows;
+    })
+    (λ k l. other (record_numbers + k) (omega arith) ∙ cells k l)
+    (get_or-set_same words edge_place v 0 (let b : edge_place < length words = omega arith in b) ∙ e)
+  where
+    other : (i : ℕ) → i < edge_place → get_or (set words edge_place v) i 0 ≡ get_or words i 0
+    other i l = get_or-set_other words edge_place i v 0 (let n : i ≢ edge_place = omega arith in n)

@@ -1,29 +1,42 @@
-// Answer slices: the number of a call whose slice is of another length (its refusals rise, all but those of reading PBM), and the value
-// that goes into one.
+// What a call answers as a number, and in answer slices: the number of a call whose slice is of another length (its refusals rise,
+// all but those of reading PBM), and the value that goes into one.
 ghost use Rattle.std.specs.Prelude.{◌≡◌, [], ◌∷◌, length};
+ghost use Rattle.basics.specs.Refusals.{number, value_or};
 ghost use Rattle.harness.specs.Boundary.{at_latest, answered};
 
-// 11, unless the refusal is a lower number.
-pub fn at_latest(refusal: u32) -> u32
-    ensures { result ≡ at_latest refusal }
+use basics::Refusal;
+
+// The number of a call: 0 where it is accepted.
+pub fn number(answer: Result<(), Refusal>) -> u32
+    ensures { result ≡ number answer }
 {
-    if refusal == 0 {
-        return 11;
+    match answer {
+        Ok(()) => 0,
+        Err(refusal) => refusal.number(),
     }
-    if 11 < refusal {
-        return 11;
-    }
-    refusal
 }
 
-// Gives the number of a call; the value beside it of an accepted one goes into `answer`.
-pub fn answer_value(refusal: u32, value: u64, answer: &mut [u64]) -> u32
-    requires { length answer.old ≡ 1 }
-    ensures { (result ≡ refusal) × (answer.new ≡ answered refusal (value ∷ []) answer.old) }
+// 11, unless the call is refused by a lower number.
+pub fn at_latest(judged: Result<(), Refusal>) -> u32
+    ensures { result ≡ at_latest (number judged) }
 {
-    if refusal != 0 {
-        return refusal;
+    let number = number(judged);
+    if number == 0 || 11 < number {
+        return 11;
     }
-    answer[0] = value;
-    0
+    number
+}
+
+// Gives the number of a call; the value of an accepted one goes into `answer`.
+pub fn answer_value(given: Result<usize, Refusal>, answer: &mut [u64]) -> u32
+    requires { length answer.old ≡ 1 }
+    ensures { (result ≡ number given) × (answer.new ≡ answered (number given) (value_or 0 given ∷ []) answer.old) }
+{
+    match given {
+        Ok(value) => {
+            answer[0] = value as u64;
+            0
+        }
+        Err(refusal) => refusal.number(),
+    }
 }

@@ -15,20 +15,19 @@ pub extern "C" fn wt_read_pbm(file: &[u8], out: &mut [u8], frame: &mut [u64]) ->
     if frame.len() != 2 {
         // The file is judged with a room of our own: where nothing else is wrong, 11 is given, whatever the room.
         let mut room = [0u8; 1];
-        let judged = pbm::read_pbm(file, &mut room);
-        let refusal = judged.refusal;
-        if refusal == 0 {
-            return 11;
+        return match pbm::read_pbm(file, &mut room) {
+            Ok(_) => 11,
+            Err(refusal) => refusal.number(),
+        };
+    }
+    match pbm::read_pbm(file, out) {
+        Ok(read) => {
+            frame[0] = read.width as u64;
+            frame[1] = read.height as u64;
+            0
         }
-        return refusal;
+        Err(refusal) => refusal.number(),
     }
-    let read = pbm::read_pbm(file, out);
-    if read.refusal != 0 {
-        return read.refusal;
-    }
-    frame[0] = read.width as u64;
-    frame[1] = read.height as u64;
-    0
 }
 
 // Public: writes a sheet as PBM to the front of `out`, and its length into `answer`. Refusals 2, 3, 11.
@@ -48,11 +47,9 @@ pub extern "C" fn wt_write_pbm(
     let columns = width as usize;
     let rows = height as usize;
     if answer.len() != 1 {
-        let refusal = sheet::sheet_refusal(columns, rows, sheet);
-        return answers::at_latest(refusal);
+        return answers::at_latest(sheet::check_sheet(columns, rows, sheet));
     }
-    let written = pbm::write_pbm(columns, rows, sheet, out);
-    answers::answer_value(written.refusal, written.length as u64, answer)
+    answers::answer_value(pbm::write_pbm(columns, rows, sheet, out), answer)
 }
 
 // Public: writes the collected levels of a finished run as PGM to the front of `out`, and its length into `answer`. Refusals 1,
@@ -67,14 +64,11 @@ pub extern "C" fn wt_write_pgm(
     ensures { WritesPicture words.now levels.now out.old answer.old result
         (out.new, answer.new) }
 {
-    if words::holds_no_record(words) {
+    let Some(run) = words::read_record(words) else {
         return 1;
-    }
-    let run = words::read_record(words);
+    };
     if answer.len() != 1 {
-        let refusal = pgm::finished::pgm_refusal(run, levels, out);
-        return answers::at_latest(refusal);
+        return answers::at_latest(pgm::finished::check_pgm(run, levels, out));
     }
-    let written = pgm::finished::write_pgm(run, levels, out);
-    answers::answer_value(written.refusal, written.length as u64, answer)
+    answers::answer_value(pgm::finished::write_pgm(run, levels, out), answer)
 }

@@ -1,10 +1,22 @@
 // Opening, closing, their transforms, dilating by a map, and the spectrum: the library's own contracts, at the boundary's numbers.
+ghost use Rattle.std.specs.Prelude.{◌≡◌};
 ghost use Rattle.filters.specs.Filters.{Opens, Closes, OpeningLevels, ClosingLevels};
 ghost use Rattle.maps.specs.Maps.{DilatesByMap};
 ghost use Rattle.harness.specs.Fractions.{GivesFractions};
 
 use super::answers;
-use filters::Input;
+use run::Input;
+
+// The numbers of an input, as C has them.
+pub fn input_of(width: u64, height: u64, side: u64) -> Input
+    ensures { result ≡ record { width = width; height = height; side = side } }
+{
+    Input {
+        width: width as usize,
+        height: height as usize,
+        side: side as usize,
+    }
+}
 
 // Public: the sheet opened by a size, into `out`. Refusals 2 to 8, 10, 11.
 #[unsafe(no_mangle)]
@@ -23,12 +35,8 @@ pub extern "C" fn wt_open(
         (record { first = first.old; second = second.old; out = out.old }) result
         (record { first = first.new; second = second.new; out = out.new }) }
 {
-    let input = Input {
-        width: width as usize,
-        height: height as usize,
-        side: side as usize,
-    };
-    filters::open(input, sheet, cells, size as usize, first, second, out)
+    let input = input_of(width, height, side);
+    answers::number(filters::open(input, sheet, cells, size as usize, first, second, out))
 }
 
 // Public: the sheet closed by a size, into `out`. Refusals 2 to 11.
@@ -48,12 +56,8 @@ pub extern "C" fn wt_close(
         (record { first = first.old; second = second.old; out = out.old }) result
         (record { first = first.new; second = second.new; out = out.new }) }
 {
-    let input = Input {
-        width: width as usize,
-        height: height as usize,
-        side: side as usize,
-    };
-    filters::close(input, sheet, cells, size as usize, first, second, out)
+    let input = input_of(width, height, side);
+    answers::number(filters::close(input, sheet, cells, size as usize, first, second, out))
 }
 
 // Public: the opening levels, into `out`. Refusals 2 to 7, 10, 11.
@@ -72,12 +76,8 @@ pub extern "C" fn wt_opening_levels(
         (record { first = first.old; second = second.old; out = out.old }) result
         (record { first = first.new; second = second.new; out = out.new }) }
 {
-    let input = Input {
-        width: width as usize,
-        height: height as usize,
-        side: side as usize,
-    };
-    filters::opening_levels(input, sheet, cells, first, second, out)
+    let input = input_of(width, height, side);
+    answers::number(filters::opening_levels(input, sheet, cells, first, second, out))
 }
 
 // Public: the closing levels up to a cap, into `out`. Refusals 2 to 11.
@@ -97,12 +97,8 @@ pub extern "C" fn wt_closing_levels(
         (record { first = first.old; second = second.old; out = out.old }) result
         (record { first = first.new; second = second.new; out = out.new }) }
 {
-    let input = Input {
-        width: width as usize,
-        height: height as usize,
-        side: side as usize,
-    };
-    filters::closing_levels(input, sheet, cells, cap as usize, first, second, out)
+    let input = input_of(width, height, side);
+    answers::number(filters::closing_levels(input, sheet, cells, cap as usize, first, second, out))
 }
 
 // Public: the sheet in which each foreground point is dilated by its size in a map, into `out`. Refusals 2 to 11, and 8 for a size
@@ -123,12 +119,8 @@ pub extern "C" fn wt_dilate_by_map(
         map.now (record { work = work.old; out = out.old }) result
         (record { work = work.new; out = out.new }) }
 {
-    let input = Input {
-        width: width as usize,
-        height: height as usize,
-        side: side as usize,
-    };
-    maps::dilate_by_map(input, sheet, cells, cap as usize, map, work, out)
+    let input = input_of(width, height, side);
+    answers::number(maps::dilate_by_map(input, sheet, cells, cap as usize, map, work, out))
 }
 
 // Public: how many points have each opening level, into `table`; the mean level over the foreground and the share of the foreground
@@ -149,13 +141,9 @@ pub extern "C" fn wt_spectrum(
         (record { first = first.old; second = second.old; out = table.old }) fractions.old result
         (record { first = first.new; second = second.new; out = table.new }, fractions.new) }
 {
-    let input = Input {
-        width: width as usize,
-        height: height as usize,
-        side: side as usize,
-    };
+    let input = input_of(width, height, side);
     if fractions.len() != 2 {
-        let refusal = spectrum::spectrum_refusal(
+        let judged = spectrum::check_spectrum(
             input,
             sheet,
             cells,
@@ -163,13 +151,14 @@ pub extern "C" fn wt_spectrum(
             second.len(),
             table.len(),
         );
-        return answers::at_latest(refusal);
+        return answers::at_latest(judged);
     }
-    let answer = spectrum::spectrum(input, sheet, cells, first, second, table);
-    if answer.refusal != 0 {
-        return answer.refusal;
+    match spectrum::spectrum(input, sheet, cells, first, second, table) {
+        Ok(summary) => {
+            fractions[0] = summary.mean;
+            fractions[1] = summary.share;
+            0
+        }
+        Err(refusal) => refusal.number(),
     }
-    fractions[0] = answer.summary.mean;
-    fractions[1] = answer.summary.share;
-    0
 }

@@ -14,5 +14,5 @@ ghost use Rattle.element.specs.Reflect.{Reflects};
 pub extern "C" fn wt_reflect(side: u64, cells: &[u8], out: &mut [u8]) -> u32
     ensures { Reflects side cells.now out.old result out.new }
 {
-    element::reflect(side as usize, cells, out)
+    answers::number(element::reflect(side as usize, cells, out))
 }

@@ -1,23 +1,25 @@
 // Runs: started, continued, collected, thresholded and looked at, with the record as words.
 ghost use Rattle.std.specs.Prelude.{◌≡◌, length};
+ghost use Rattle.basics.specs.Refusals.{number, value_or};
+ghost use Rattle.run.specs.Records.{empty_record};
 ghost use Rattle.run.specs.Starting.{fresh_record, dilation_refusals};
 ghost use Rattle.harness.specs.Boundary.{record_words, words_of, answered};
-ghost use Rattle.harness.specs.Runs.{flag, StartsWords, StartsErosionWords, StartsDilationWords, StartsCroppedWords};
+ghost use Rattle.harness.specs.Runs.{StartsWords, StartsErosionWords, StartsDilationWords, StartsCroppedWords};
 ghost use Rattle.harness.specs.Runs.{ContinuesWords, CollectsWords, ThresholdsWords, ShowsProvisionalWords};
 
-use super::{answers, words};
-use run::starting::Started;
+use super::{answers, filtering, words};
+use basics::Refusal;
+use run::Record;
 
 // Public: the frame's levels of a finished run, into `out`. Refusals 1, 10, 11, 13.
 #[unsafe(no_mangle)]
 pub extern "C" fn wt_collect(words: &[u64], levels: &[u16], out: &mut [u16]) -> u32
     ensures { CollectsWords words.now levels.now out.old result out.new }
 {
-    if words::holds_no_record(words) {
+    let Some(run) = words::read_record(words) else {
         return 1;
-    }
-    let run = words::read_record(words);
-    run::pictures::collect(run, levels, out)
+    };
+    answers::number(run::pictures::collect(run, levels, out))
 }
 
 // Public: the sheet that a finished run holds at a size, into `out`. Refusals 1, 8, 10, 11, 13.
@@ -25,21 +27,10 @@ pub extern "C" fn wt_collect(words: &[u64], levels: &[u16], out: &mut [u16]) -> 
 pub extern "C" fn wt_threshold(words: &[u64], levels: &[u16], size: u64, out: &mut [u8]) -> u32
     ensures { ThresholdsWords words.now levels.now size out.old result out.new }
 {
-    if words::holds_no_record(words) {
+    let Some(run) = words::read_record(words) else {
         return 1;
-    }
-    let run = words::read_record(words);
-    run::pictures::threshold(run, levels, size as usize, out)
-}
-
-// 1 where it is so, else 0.
-fn flag_of(all: bool) -> u64
-    ensures { result ≡ flag all }
-{
-    if all {
-        return 1;
-    }
-    0
+    };
+    answers::number(run::pictures::threshold(run, levels, size as usize, out))
 }
 
 // Public: the sheet that a run's levels hold at a size as they stand, into `out`; `state` becomes 1 where it is final, else 0.
@@ -55,17 +46,20 @@ pub extern "C" fn wt_provisional(
     ensures { ShowsProvisionalWords words.now levels.now size out.old state.old result
         (out.new, state.new) }
 {
-    if words::holds_no_record(words) {
+    let Some(run) = words::read_record(words) else {
         return 1;
-    }
-    let run = words::read_record(words);
+    };
     if state.len() != 1 {
-        let refusal = run::pictures::provisional_refusal(run, levels, size as usize, out);
-        return answers::at_latest(refusal);
+        let judged = run::pictures::check_provisional(run, levels, size as usize, out);
+        return answers::at_latest(judged);
     }
-    let shown = run::provisional::provisional(run, levels, size as usize, out);
-    let state_word = flag_of(shown.done);
-    answers::answer_value(shown.refusal, state_word, state)
+    match run::provisional::provisional(run, levels, size as usize, out) {
+        Ok(done) => {
+            state[0] = u64::from(done);
+            0
+        }
+        Err(refusal) => refusal.number(),
+    }
 }
 
 // Public: works the allowance of rows or what is due, the lesser. Of `answer` the first word becomes 1 when all rows are done, else 0,
@@ -83,39 +77,37 @@ pub extern "C" fn wt_continue(
       answer.new,
     ) }
 {
-    if words::holds_no_record(words) {
+    let Some(run) = words::read_record(words) else {
         return 1;
-    }
-    let run = words::read_record(words);
+    };
     if answer.len() != 2 {
-        let refusal = run::continuing::continue_refusal(run, levels, allowance as usize);
-        return answers::at_latest(refusal);
+        let judged = run::continuing::check_continue(run, levels, allowance as usize);
+        return answers::at_latest(judged);
     }
-    let worked = run::continuing::continue_run(run, levels, allowance as usize);
-    let refusal = worked.refusal;
-    if refusal != 0 {
-        return refusal;
+    match run::continuing::continue_run(run, levels, allowance as usize) {
+        Ok(worked) => {
+            words::write_record(worked.run, words);
+            answer[0] = u64::from(worked.done);
+            answer[1] = worked.lowered as u64;
+            0
+        }
+        Err(refusal) => refusal.number(),
     }
-    let next = worked.run;
-    words::write_record(next, words);
-    answer[0] = flag_of(worked.done);
-    answer[1] = worked.lowered as u64;
-    0
 }
 
 // Gives the number of a start; the record of an accepted one goes into `words`.
-fn answer_start(started: Started, words: &mut [u64]) -> u32
+fn answer_start(started: Result<Record, Refusal>, words: &mut [u64]) -> u32
     requires { length words.old ≡ record_words }
-    ensures { (result ≡ started.refusal) ×
-        (words.new ≡ answered started.refusal (words_of started.run) words.old) }
+    ensures { (result ≡ number started) ×
+        (words.new ≡ answered (number started) (words_of (value_or empty_record started)) words.old) }
 {
-    let refusal = started.refusal;
-    if refusal != 0 {
-        return refusal;
+    match started {
+        Ok(run) => {
+            words::write_record(run, words);
+            0
+        }
+        Err(refusal) => refusal.number(),
     }
-    let run = started.run;
-    words::write_record(run, words);
-    0
 }
 
 // Public: starts an erosion; its record goes into `words`. Refusals 2 to 7, 10, 11.
@@ -132,21 +124,11 @@ pub extern "C" fn wt_start_erosion(
     ensures { StartsErosionWords width height sheet.now side cells.now levels.old
         words.old result (levels.new, words.new) }
 {
-    let columns = width as usize;
-    let rows = height as usize;
-    let element_side = side as usize;
+    let input = filtering::input_of(width, height, side);
     if words.len() != words::RECORD_WORDS {
-        let refusal = run::starting::erosion_refusal(
-            columns,
-            rows,
-            sheet,
-            element_side,
-            cells,
-            levels,
-        );
-        return answers::at_latest(refusal);
+        return answers::at_latest(run::starting::check_erosion(input, sheet, cells, levels));
     }
-    let started = run::starting::start_erosion(columns, rows, sheet, element_side, cells, levels);
+    let started = run::starting::start_erosion(input, sheet, cells, levels);
     answer_start(started, words)
 }
 
@@ -168,33 +150,12 @@ fn start_on_canvas(
         (fresh_record kind edge width height cap side cells.now) sheet.now levels.old
         words.old result (levels.new, words.new) }
 {
-    let columns = width as usize;
-    let rows = height as usize;
-    let element_side = side as usize;
-    let highest = cap as usize;
+    let input = filtering::input_of(width, height, side);
+    let cap = cap as usize;
     if words.len() != words::RECORD_WORDS {
-        let refusal = run::starting::dilation_refusal(
-            columns,
-            rows,
-            sheet,
-            element_side,
-            cells,
-            highest,
-            levels,
-        );
-        return answers::at_latest(refusal);
+        return answers::at_latest(run::starting::check_dilation(input, sheet, cells, cap, levels));
     }
-    let started = run::starting::start_on_canvas(
-        kind,
-        edge,
-        columns,
-        rows,
-        sheet,
-        element_side,
-        cells,
-        highest,
-        levels,
-    );
+    let started = run::starting::start_on_canvas(kind, edge, input, sheet, cells, cap, levels);
     answer_start(started, words)
 }
 

@@ -4,16 +4,20 @@ use Prim.Native.Nat.{ℕ, suc, ◌+◌, ◌-◌, ◌*◌, ◌≤◌, ◌<◌}
 use native.Mathlib.Nat.{mul-le-mul_right, suc-mul}
 use native.Mathlib.Decide.{ℕ_discrete, dec_lt}
 use native.Mathlib.Omega.{arith}
-use mathlib.Core.Path.{◌≡◌, refl, sym, ap, ◌∙◌}
+use mathlib.Core.Path.{◌≡◌, refl, sym, ap, ap₂, ◌∙◌}
 use mathlib.Core.Bool.{Bool, false, true, cond, ◌&&◌}
 use mathlib.Core.Logic.{◌≢◌}
 use mathlib.Core.List.{List}
 use lib.Dec.{leb, ltb}
-use lib.ListN.{get_or}
+use lib.ListN.{length, get_or}
+use borrow.Rule.Slice.PartMut.{mid_of, put_mid}
 use borrow.Author.Tests.{lt-ltb, le-ltb, le-leb, lt-leb}
+use Rattle.basics.specs.Tables.{table}
+use Rattle.basics.proofs.TableLaws.{table_same}
 use Rattle.run.specs.Records.{canvas_side}
 use Rattle.run.specs.Starting.{framed}
 use Rattle.run.specs.Patches.{Patch}
+use Rattle.filters.proofs.StoreLaws.{part_patch, length-mid, get_or-mid}
 use Rattle.maps.specs.Maps.{size_in}
 use Rattle.maps.specs.Raising.{raised, Raised}
 
@@ -124,3 +128,26 @@ module _ (width margin : ℕ) where
               let m : suc (rows + margin) * side ≤ row * side = mul-le-mul_right side (let l : suc (rows + margin) ≤ row = omega arith in l) in
               let s = suc-mul (rows + margin) side in
               stays row col b (P.later _ (omega arith)) (sym (framed_other rows row col n))
+
+    -- the same of a part that is written into the levels
+    pub raised_part : {rows side : ℕ} {before levels part : List ℕ} → Raised width margin rows most map before levels
+        → side ≡ canvas_side width margin
+        → (rows + margin) * canvas_side width margin + margin + width ≤ length levels → rows * width + width ≤ length map
+        → let at = (rows + margin) * side + margin in
+        let from = rows * width in
+        part ≡ table (length (mid_of from (from + width - from) map))
+        (λ i. raised most (get_or (mid_of from (from + width - from) map) i 0) (get_or (mid_of at (at + width - at) levels) i 0))
+        → Raised width margin (rows + 1) most map before (put_mid at (at + width - at) levels part)
+    raised_part {rows} {side} {before} {levels} {part} R e room inside is =
+        let w = width in
+        let at = (rows + margin) * canvas_side w margin + margin in
+        let from = rows * w in
+        let q : at + w - at ≡ w = omega arith in
+        let p : from + w - from ≡ w = omega arith in
+        rw e (raised_turn R (part_patch at w (at + w - at) levels part _ q room
+        ((rw (e, length-mid from w map inside) at is)
+        ∙ table_same
+        (λ i. raised most (get_or (mid_of from (from + w - from) map) i 0) (get_or (mid_of at (at + w - at) levels) i 0))
+        (λ i. raised most (get_or map (from + i) 0) (get_or levels (at + i) 0)) w
+        (λ i l. ap₂ (λ s v. raised most s v) (get_or-mid from w (from + w - from) map i p l)
+        (get_or-mid at w (at + w - at) levels i q l)))))

@@ -4,8 +4,9 @@
 
 ghost use Rattle.std.specs.Prelude.{◌≡◌, false, ◌||◌, ◌+◌, ◌*◌, ◌<◌, ◌≤◌, ltb, length, get_or, replicate};
 ghost use Rattle.basics.specs.Bounds.{any_above};
-ghost use Rattle.basics.specs.Refusals.{first};
-ghost use Rattle.run.specs.Patches.{Patch, Canvas};
+ghost use Rattle.basics.specs.Refusals.{first, number};
+ghost use Rattle.basics.specs.Tables.{table};
+ghost use Rattle.run.specs.Patches.{Canvas};
 ghost use Rattle.run.specs.Starting.{dilation_refusals};
 ghost use Rattle.run.specs.Pictures.{thresholded};
 ghost use Rattle.run.specs.Demand2.{finished};
@@ -13,8 +14,10 @@ ghost use Rattle.filters.specs.Filters.{frame_size};
 ghost use Rattle.maps.specs.Maps.{sizes_seen, map_refusals, DilatesByMap};
 ghost use Rattle.maps.specs.Raising.{raised, Raised, StartsByMap, Fits, above_from, Finishes};
 
+use basics::Refusal;
 use filters::Input;
-use run::Record;
+use run::records::Frame;
+use run::{Record, starting};
 
 // Whether the map has a size above the cap at a row and a column, and a foreground point stands there.
 fn is_above(input: Input, sheet: &[u8], map: &[u16], cap: usize, row: usize, col: usize) -> bool
@@ -23,7 +26,7 @@ fn is_above(input: Input, sheet: &[u8], map: &[u16], cap: usize, row: usize, col
 {
     let place = row * input.width + col;
     let pixel = sheet::pixel_at(input.width, sheet, row, col);
-    (pixel == 1) & (cap < map[place] as usize)
+    (pixel == 1) & (cap < usize::from(map[place]))
 }
 
 // Whether it has one in a row. Nothing branches on a size or a pixel, which follow no pattern.
@@ -32,12 +35,9 @@ fn any_in_row(input: Input, sheet: &[u8], map: &[u16], cap: usize, row: usize) -
     ensures { result || above_from cap (sizes_seen input sheet.now map.now) (row * input.width + input.width)
         ≡ above_from cap (sizes_seen input sheet.now map.now) (row * input.width) }
 {
-    let width = input.width;
     let mut found = false;
-    let mut col = 0;
-    while col < width {
-        found = found | is_above(input, sheet, map, cap, row, col);
-        col += 1;
+    for col in 0..input.width {
+        found |= is_above(input, sheet, map, cap, row, col);
     }
     found
 }
@@ -47,13 +47,10 @@ fn any_seen(input: Input, sheet: &[u8], map: &[u16], cap: usize) -> bool
     requires { Fits input sheet.now map.now }
     ensures { result ≡ any_above cap (sizes_seen input sheet.now map.now) }
 {
-    let height = input.height;
-    let mut row = 0;
-    while row < height {
+    for row in 0..input.height {
         if any_in_row(input, sheet, map, cap, row) {
             return true;
         }
-        row += 1;
     }
     false
 }
@@ -63,15 +60,11 @@ fn any_above(input: Input, sheet: &[u8], map: &[u16], cap: usize) -> bool
     requires { Fits input sheet.now map.now }
     ensures { result ≡ any_above cap (sizes_seen input sheet.now map.now) }
 {
-    let highest = filters::levels::highest(map);
-    if highest as usize <= cap {
-        return false;
-    }
-    any_seen(input, sheet, map, cap)
+    cap < usize::from(filters::levels::highest(map)) && any_seen(input, sheet, map, cap)
 }
 
-// Refusals 2 to 11, and 8 for a size above the cap, or 0.
-fn map_refusal(
+// Refusals 2 to 11, and 8 for a size above the cap.
+fn check_map(
     input: Input,
     sheet: &[u8],
     bytes: &[u8],
@@ -79,28 +72,21 @@ fn map_refusal(
     map: &[u16],
     work: &[u16],
     out: &[u8],
-) -> u32
-    ensures { result ≡ first (map_refusals input sheet.now bytes.now cap map.now
-        (record { work = work.entry.now; out = out.now })) }
+) -> Result<(), Refusal>
+    ensures { number result ≡ first
+        (map_refusals input sheet.now bytes.now cap map.now (record { work = work.now; out = out.now })) }
 {
-    let width = input.width;
-    let height = input.height;
-    let refusal = run::starting::dilation_refusal(
-        width, height, sheet, input.side, bytes, cap, work,
-    );
-    if refusal != 0 {
-        return refusal;
+    starting::check_dilation(input, sheet, bytes, cap, work)?;
+    if map.len() != input.height * input.width {
+        return Err(Refusal::LevelsLength);
     }
-    if map.len() != height * width {
-        return 10;
-    }
-    if out.len() != height * sheet::row_bytes(width) {
-        return 11;
+    if out.len() != input.height * sheet::row_bytes(input.width) {
+        return Err(Refusal::OutputLength);
     }
     if any_above(input, sheet, map, cap) {
-        return 8;
+        return Err(Refusal::Size);
     }
-    0
+    Ok(())
 }
 
 // The level that a point with a size starts with, where a dilation's is 1; another level stays. No accepted map has a size above
@@ -108,54 +94,37 @@ fn map_refusal(
 fn raised_level(level: u16, size: u16, most: u16) -> u16
     ensures { result ≡ raised most size level }
 {
-    if level != 1 {
-        return level;
+    if level == 1 {
+        most.saturating_sub(size)
+    } else {
+        level
     }
-    if most < size {
-        return 0;
-    }
-    most - size
 }
 
-// Raises the `n` levels from `at` on by the sizes from `from` on.
-fn raise_row(levels: &mut [u16], at: usize, n: usize, map: &[u16], from: usize, most: u16)
-    requires { (at + n ≤ length levels.old) × (from + n ≤ length map.now) }
-    ensures { Patch at n
-        (λ i. raised most (get_or map.now (from + i) 0) (get_or levels.old (at + i) 0))
-        levels.old levels.new }
+// Raises the levels of a row by its sizes.
+fn raise_row(levels: &mut [u16], map: &[u16], most: u16)
+    requires { length levels.old ≡ length map.now }
+    ensures { levels.new ≡ table (length map.now) (λ i. raised most (get_or map.now i 0) (get_or levels.old i 0)) }
 {
-    let mut i = 0;
-    while i < n {
-        let level = raised_level(levels[at + i], map[from + i], most);
-        levels[at + i] = level;
-        i += 1;
+    for i in 0..map.len() {
+        levels[i] = raised_level(levels[i], map[i], most);
     }
 }
 
 // Raises the levels of the frame by the map.
-fn raise_frame(
-    levels: &mut [u16],
-    width: usize,
-    height: usize,
-    margin: usize,
-    map: &[u16],
-    most: u16,
-)
-    requires { Canvas width height margin levels.old × (length map.now ≡ height * width) }
-    ensures { Raised width margin height most map.now levels.old levels.new }
+fn raise_frame(levels: &mut [u16], frame: Frame, map: &[u16], most: u16)
+    requires { Canvas frame.width frame.height frame.margin levels.old × (length map.now ≡ frame.height * frame.width) }
+    ensures { Raised frame.width frame.margin frame.height most map.now levels.old levels.new }
 {
-    let side = width + (margin + margin);
-    let mut row = 0;
-    while row < height {
+    let side = frame.area_width();
+    for row in 0..frame.height {
+        let at = (row + frame.margin) * side + frame.margin;
+        let from = row * frame.width;
         raise_row(
-            levels,
-            (row + margin) * side + margin,
-            width,
-            map,
-            row * width,
+            &mut levels[at..at + frame.width],
+            &map[from..from + frame.width],
             most,
         );
-        row += 1;
     }
 }
 
@@ -172,19 +141,10 @@ fn start_by_map(
         (length map.now ≡ frame_size input) }
     ensures { StartsByMap input sheet.now bytes.now cap map.now result work.new }
 {
-    let dilation = run::starting::start_dilation(
-        input.width,
-        input.height,
-        sheet,
-        input.side,
-        bytes,
-        cap,
-        work,
-    );
-    let margin = run::records::margin_of(cap, input.side);
+    let run = starting::start_dilation(input, sheet, bytes, cap, work).unwrap();
     let most = cap as u16 + 1;
-    raise_frame(work, input.width, input.height, margin, map, most);
-    dilation.run
+    raise_frame(work, run::records::frame_of(run), map, most);
+    run
 }
 
 // Works all rows of a started run, and fills `out` with the sheet that it holds at its cap; the work buffer becomes all zero.
@@ -195,7 +155,7 @@ fn finish_sheet(run: Record, work: &mut [u16], out: &mut [u8])
 {
     filters::back::finish(run, work);
     run::pictures::pack_held(run, work, run.cap, out);
-    filters::back::clear(work);
+    work.fill(0);
 }
 
 // Public: fills `out` with the sheet in which each foreground point is dilated by its size in the map; the work buffer becomes all
@@ -208,16 +168,13 @@ pub fn dilate_by_map(
     map: &[u16],
     work: &mut [u16],
     out: &mut [u8],
-) -> u32
+) -> Result<(), Refusal>
     ensures { DilatesByMap input sheet.now bytes.now cap map.now
-        (record { work = work.entry.now; out = out.old }) result
-        (record { work = work.exit.now; out = out.new }) }
+        (record { work = work.old; out = out.old }) (number result)
+        (record { work = work.new; out = out.new }) }
 {
-    let refusal = map_refusal(input, sheet, bytes, cap, map, work, out);
-    if refusal != 0 {
-        return refusal;
-    }
+    check_map(input, sheet, bytes, cap, map, work, out)?;
     let run = start_by_map(input, sheet, bytes, cap, map, work);
     finish_sheet(run, work, out);
-    0
+    Ok(())
 }

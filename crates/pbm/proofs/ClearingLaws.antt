@@ -1,163 +1,143 @@
--- The loop that clears padding: the first k bytes of the output are the packed sheet's, and `left` bytes of the row are still
--- to come. Where one is left it is the row's last, and loses as many bits as the row has padding; any other is copied.
-use Prim.Native.Nat.{ℕ, suc, ◌+◌, ◌-◌, ◌*◌, ◌/◌, ◌%◌, ◌^◌, ◌≤◌, ◌<◌, min}
-use native.Mathlib.Nat.{zero-mod, mod-one, mod-eq_of_lt, suc-mul, one-le-pow, pow-le-pow_right}
+-- The loop that clears padding: the rows before it are the packed sheet's, the others are still as they were copied. A row's last
+-- byte loses as many bits as the row has padding; any other is the packed sheet's as it is.
+use Prim.Native.Nat.{ℕ, ◌+◌, ◌-◌, ◌*◌, ◌/◌, ◌%◌, ◌^◌, ◌≤◌, ◌<◌, min}
+use native.Mathlib.Nat.{mod-one, mod-eq_of_lt, suc-mul, div-add-mod'}
+use native.Mathlib.Numerals.{add-one}
+use native.Mathlib.Decide.{dec_lt, ℕ_discrete}
 use native.Mathlib.Omega.{arith}
-use mathlib.Core.Path.{◌≡◌, refl, sym, ap, ◌∙◌}
-use mathlib.Core.Bool.{Bool, true, false, cond}
+use mathlib.Core.Path.{◌≡◌, refl, sym, ap, ap₂, ◌∙◌}
 use mathlib.Core.List.{List, ◌++◌}
-use lib.Dec.{eqb}
-use lib.ListN.{length, get_or, drop, set}
-use borrow.Author.Tests.{eqb-true, eqb-false}
-use Rattle.basics.specs.Tables.{table, raster, filled}
-use Rattle.basics.proofs.Arithmetic.{column_of, column_below, entry_of}
-use Rattle.basics.proofs.TableLaws.{length-table, filled_none, filled_more, length-filled}
+use lib.ListN.{length, get_or, take, drop, set, length-set, length-append, length-drop, get_or-append, take-append-drop}
+use lib.Seq.{drop-append_seam, length-take-le, drop-set-lt, get_or-set_same}
+use Rattle.std.proofs.lemmas.List.{get_or-take, get_or-set_other}
+use Rattle.basics.specs.Tables.{raster}
+use Rattle.basics.proofs.Arithmetic.{column_of, entry_of, entry_below}
+use Rattle.basics.proofs.TableLaws.{length-table, table_is}
 use Rattle.sheet.specs.Sheets.{row_bytes, pixel, byte_packed, packed}
 use Rattle.text.specs.Writing.{begun}
 use Rattle.pbm.specs.Pbm.{cleared}
 use Rattle.pbm.proofs.PackingLaws.{packed_byte}
 
 -- byte k of the packed sheet
-abbrev pub packed_at : ℕ → List ℕ → ℕ → ℕ
+abbrev packed_at : ℕ → List ℕ → ℕ → ℕ
 packed_at width bytes k = byte_packed width (pixel width bytes (k / row_bytes width)) (k % row_bytes width)
 
--- what the loop works with, and what it keeps
-pub record Counts (width height : ℕ) (bytes out : List ℕ) (row count weight : ℕ) : Type 0 where
-  pub row_is : row ≡ row_bytes width
-  pub count_is : count ≡ height * row_bytes width
-  pub weight_is : weight ≡ 2 ^ (row_bytes width * 8 - width)
-  pub there : count ≤ length bytes
-  pub room : count ≤ length out
+module _ (width : ℕ) (bytes : List ℕ) (k : ℕ) (byte : get_or bytes k 0 < 256) where
+  place : get_or bytes k 0 ≡ get_or bytes (k / row_bytes width * row_bytes width + k % row_bytes width) 0
+  place = ap (λ n. get_or bytes n 0) (sym (entry_of (row_bytes width) k))
 
-module _ {width height row weight : ℕ} (bytes out : List ℕ) where
-  pub ready : row ≡ row_bytes width → weight ≡ 2 ^ (row_bytes width * 8 - width) → height * row_bytes width ≤ length bytes
-      → height * row_bytes width ≤ length out → Counts width height bytes out row (height * row) weight
-  ready r w a b = let e = ap (λ n. height * n) r in
-      record { row_is = r; count_is = e; weight_is = w; there = omega arith; room = omega arith }
+  packed_inner : k % row_bytes width + 1 < row_bytes width → packed_at width bytes k ≡ get_or bytes k 0
+  packed_inner l =
+      let e = packed_byte width bytes (k / row_bytes width) (k % row_bytes width) 8 (omega arith) (omega arith) (get_or bytes k 0)
+      place byte in
+      let z = mod-one (get_or bytes k 0) in
+      omega arith
 
--- the weight of the padding, as it is shifted
-pub weight_shifted : (width row : ℕ) → row ≡ row_bytes width → 1 * 2 ^ (row * 8 - width) % 256 ≡ 2 ^ (row_bytes width * 8 - width)
-weight_shifted width row e =
-    let p = pow-le-pow_right {n = 2} (omega arith) {i = row * 8 - width} {j = 7} (omega arith) in
-    let m = mod-eq_of_lt {n = 1 * 2 ^ (row * 8 - width)} {m = 256} (omega arith) in
-    m ∙ (let o : 1 * 2 ^ (row * 8 - width) ≡ 2 ^ (row * 8 - width) = omega arith in o) ∙ ap (λ n. 2 ^ (n * 8 - width)) e
+  -- shifted to the right and back, a byte loses its padding
+  packed_last : 1 ≤ width → k % row_bytes width + 1 ≡ row_bytes width → (padding : ℕ) → padding ≡ row_bytes width * 8 - width
+      → get_or bytes k 0 / 2 ^ padding * 2 ^ padding % 256 ≡ packed_at width bytes k
+  packed_last one l padding e =
+      let kept = min (width - k % row_bytes width * 8) 8 in
+      let b = get_or bytes k 0 in
+      let p : padding ≡ 8 - kept = omega arith in
+      let d = div-add-mod' b (2 ^ padding) in
+      let s : b / 2 ^ padding * 2 ^ padding ≡ b - b % 2 ^ padding = omega arith in
+      mod-eq_of_lt {n = b / 2 ^ padding * 2 ^ padding} {m = 256} (omega arith) ∙ s ∙ ap (λ n. b - b % 2 ^ n) p
+      ∙ sym (packed_byte width bytes (k / row_bytes width) (k % row_bytes width) kept (omega arith) refl b place byte)
 
-pub record Clearing (width height : ℕ) (bytes out : List ℕ) (row count weight left k : ℕ) (now : List ℕ) : Type 0 where
-  pub given : Counts width height bytes out row count weight
-  pub below : k ≤ count
-  pub to_come : left ≡ row_bytes width - k % row_bytes width
-  pub front : now ≡ filled k (packed_at width bytes) out
+-- what the loop keeps
+pub record Clearing (width height : ℕ) (bytes out : List ℕ) (rows : ℕ) (now : List ℕ) : Type 0 where
+  pub size : length now ≡ length out
+  pub done : (k : ℕ) → k < rows * row_bytes width → get_or now k 0 ≡ packed_at width bytes k
+  pub copied : (k : ℕ) → rows * row_bytes width ≤ k → k < height * row_bytes width → get_or now k 0 ≡ get_or bytes k 0
+  pub rest : drop (height * row_bytes width) now ≡ drop (height * row_bytes width) out
 
--- the column after the one of k
-next_column : (w k : ℕ) → k % w + 1 < w → (k + 1) % w ≡ k % w + 1
-next_column w k l =
-    let e = entry_of w k in
-    let n : k + 1 ≡ k / w * w + (k % w + 1) = omega arith in
-    ap (λ m. m % w) n ∙ column_of w (k / w) (k % w + 1) l
+module _ {width height : ℕ} {bytes out : List ℕ} (there : height * row_bytes width ≤ length bytes)
+    (room : height * row_bytes width ≤ length out) where
+  pub clearing_start : {copy : List ℕ} → copy ≡ take (height * row_bytes width) bytes
+      → Clearing width height bytes out 0 (copy ++ drop (height * row_bytes width) out)
+  clearing_start {copy} e =
+      let n = height * row_bytes width in
+      let s : length copy ≡ n = ap length e ∙ length-take-le n bytes there in
+      let d = length-drop n out in
+      record {
+        size = length-append copy (drop n out) ∙ (omega arith);
+        done = λ k l. absurd (omega arith);
+        copied = λ k z l.
+            get_or-append copy (drop n out) 0 k (omega arith) ∙ ap (λ xs. get_or xs k 0) e ∙ get_or-take n bytes k 0 l;
+        rest = ap (λ m. drop m (copy ++ drop n out)) (sym s) ∙ drop-append_seam copy (drop n out);
+      }
 
-first_column : (w k : ℕ) → k % w + 1 ≡ w → (k + 1) % w ≡ 0
-first_column w k l =
-    let e = entry_of w k in
-    let s = suc-mul (k / w) w in
-    let n : k + 1 ≡ suc (k / w) * w + 0 = omega arith in
-    ap (λ m. m % w) n ∙ column_of w (suc (k / w)) 0 (omega arith)
+  module _ {rows : ℕ} {now : List ℕ} (h : Clearing width height bytes out rows now) (one : 1 ≤ width) (l : rows < height)
+      (byte : (k : ℕ) → get_or bytes k 0 < 256) (last padding : ℕ) (e : last ≡ rows * row_bytes width + row_bytes width - 1)
+      (p : padding ≡ row_bytes width * 8 - width) where
+    last_column : last % row_bytes width + 1 ≡ row_bytes width
+    last_column =
+        let at : last ≡ rows * row_bytes width + (row_bytes width - 1) = omega arith in
+        let c = column_of (row_bytes width) rows (row_bytes width - 1) (omega arith) in
+        let f = ap (λ n. n % row_bytes width) at in
+        omega arith
 
--- the output is filled: its first bytes are the packed sheet
-filled_begun : (width height : ℕ) (bytes out : List ℕ)
-    → filled (height * row_bytes width) (packed_at width bytes) out ≡ begun (cleared width height bytes) out
-unfolding filled begun cleared packed raster
-filled_begun width height bytes out =
-    ap (λ n. table (height * row_bytes width) (packed_at width bytes) ++ drop n out)
-    (sym (length-table (packed_at width bytes) (height * row_bytes width)))
+    last_within : last < height * row_bytes width
+    last_within = let b = entry_below (row_bytes width) height rows (row_bytes width - 1) l (omega arith) in omega arith
 
-pub clearing_start : {width height : ℕ} {bytes out : List ℕ} {row count weight : ℕ}
-    → Counts width height bytes out row count weight → Clearing width height bytes out row count weight row 0 out
-clearing_start {width} {height} {bytes} {out} g =
-    let z = zero-mod (row_bytes width) in
-    let r = g.row_is in
-    record { given = g; below = omega arith; to_come = omega arith; front = sym (filled_none (packed_at width bytes) out) }
+    inner_column : (k : ℕ) → rows * row_bytes width ≤ k → k < last → k % row_bytes width + 1 < row_bytes width
+    inner_column k a b =
+        let j = k - rows * row_bytes width in
+        let at : k ≡ rows * row_bytes width + j = omega arith in
+        let c = column_of (row_bytes width) rows j (omega arith) in
+        let f = ap (λ n. n % row_bytes width) at in
+        omega arith
 
-module _ {width height : ℕ} {bytes out : List ℕ} {row count weight left k : ℕ} {now : List ℕ}
-    (h : Clearing width height bytes out row count weight left k now) where
-  pub clearing_length : length now ≡ length out
-  clearing_length = let b = h.below in let r = h.given.room in
-      ap length h.front ∙ length-filled (packed_at width bytes) k out (omega arith)
-
-  pub clearing_end : count ≤ k → now ≡ begun (cleared width height bytes) out
-  clearing_end l =
-      let b = h.below in
-      let c = h.given.count_is in
-      let e : k ≡ height * row_bytes width = omega arith in
-      h.front ∙ ap (λ n. filled n (packed_at width bytes) out) e ∙ filled_begun width height bytes out
-
-  pub weight_positive : 0 < weight
-  weight_positive = let p = one-le-pow (row_bytes width * 8 - width) 2 (omega arith) in let e = h.given.weight_is in omega arith
-
-  module _ (l : k < count) where
-    in_row : k % row_bytes width < row_bytes width
-    in_row = let c = h.given.count_is in column_below (row_bytes width) height k (omega arith)
-
-    pub left_positive : 0 < left
-    left_positive = let c = h.to_come in let b = in_row in omega arith
-
-    pub read_room : k < length bytes
-    read_room = let r = h.given.there in omega arith
-
-    pub write_room : k < length now
-    write_room = let r = h.given.room in let e = clearing_length in omega arith
+    next_row : (rows + 1) * row_bytes width ≡ last + 1
+    next_row = let m = ap (λ n. n * row_bytes width) (add-one rows) ∙ suc-mul rows (row_bytes width) in omega arith
 
     -- the byte that the turn stores
-    stored : (byte new : ℕ) → byte ≡ get_or bytes k 0 → byte < 256 → new ≡ cond (eqb left 1) (byte - byte % weight) byte
-        → new ≡ packed_at width bytes k
-    stored byte new e b q = go (eqb left 1) refl q
-      where
-        place : byte ≡ get_or bytes (k / row_bytes width * row_bytes width + k % row_bytes width) 0
-        place = e ∙ ap (λ n. get_or bytes n 0) (sym (entry_of (row_bytes width) k))
+    stored : ℕ
+    stored = get_or now last 0 / 2 ^ padding * 2 ^ padding % 256
 
-        go : (t : Bool) → eqb left 1 ≡ t → new ≡ cond t (byte - byte % weight) byte → new ≡ packed_at width bytes k
-        go true t q =
-            let c = h.to_come in
-            let o = eqb-true left 1 t in
-            let r = in_row in
-            let kept = min (width - k % row_bytes width * 8) 8 in
-            let s : row_bytes width * 8 - width ≡ 8 - kept = omega arith in
-            q ∙ ap (λ w. byte - byte % w) (h.given.weight_is ∙ ap (λ n. 2 ^ n) s)
-            ∙ sym (packed_byte width bytes (k / row_bytes width) (k % row_bytes width) kept in_row refl byte place b)
-        go false t q =
-            let c = h.to_come in
-            let o = eqb-false left 1 t in
-            let r = in_row in
-            let s : 8 ≡ min (width - k % row_bytes width * 8) 8 = omega arith in
-            let m : byte ≡ byte - byte % 1 = let z = mod-one byte in omega arith in
-            q ∙ m ∙ sym (packed_byte width bytes (k / row_bytes width) (k % row_bytes width) 8 in_row s byte place b)
+    stored_is : stored ≡ packed_at width bytes last
+    unfolding stored
+    stored_is =
+        let w = last_within in
+        ap (λ b. b / 2 ^ padding * 2 ^ padding % 256) (h.copied last (omega arith) w)
+        ∙ packed_last width bytes last (byte last) one last_column padding p
 
-    -- the bytes of the row that are still to come
-    counted : (new : ℕ) → new ≡ cond (eqb left 1) row (left - 1) → new ≡ row_bytes width - (k + 1) % row_bytes width
-    counted new q = go (eqb left 1) refl q
-      where
-        go : (t : Bool) → eqb left 1 ≡ t → new ≡ cond t row (left - 1) → new ≡ row_bytes width - (k + 1) % row_bytes width
-        go true t q =
-            let c = h.to_come in
-            let o = eqb-true left 1 t in
-            let r = in_row in
-            let w = h.given.row_is in
-            let f = first_column (row_bytes width) k (omega arith) in
-            omega arith
-        go false t q =
-            let c = h.to_come in
-            let o = eqb-false left 1 t in
-            let r = in_row in
-            let f = next_column (row_bytes width) k (omega arith) in
-            omega arith
+    turn_done : (k : ℕ) → k < last + 1 → Dec (k ≡ last) → Dec (k < rows * row_bytes width)
+        → get_or (set now last stored) k 0 ≡ packed_at width bytes k
+    turn_done k b (yes z) d =
+        let w = last_within in
+        let s = h.size in
+        rw z (get_or-set_same now last stored 0 (omega arith) ∙ stored_is)
+    turn_done k b (no n) (yes d) = get_or-set_other now last k stored 0 n ∙ h.done k d
+    turn_done k b (no n) (no d) =
+        let w = last_within in
+        let m : k < last = omega arith in
+        get_or-set_other now last k stored 0 n ∙ h.copied k (omega arith) (omega arith)
+        ∙ sym (packed_inner width bytes k (byte k) (inner_column k (omega arith) m))
 
-    pub clearing_turn : (byte new left' : ℕ) → byte ≡ get_or bytes k 0 → byte < 256
-        → new ≡ cond (eqb left 1) (byte - byte % weight) byte → left' ≡ cond (eqb left 1) row (left - 1)
-        → Clearing width height bytes out row count weight left' (k + 1) (set now k new)
-    clearing_turn byte new left' e b q r =
-        let m = h.given.room in
+    pub clearing_turn : Clearing width height bytes out (rows + 1)
+        (set now last (get_or now last 0 / 2 ^ padding * 2 ^ padding % 256))
+    unfolding stored
+    clearing_turn =
+        let w = last_within in
+        let r = next_row in
         record {
-          given = h.given;
-          below = omega arith;
-          to_come = counted left' r;
-          front = filled_more (packed_at width bytes) k out now new (omega arith) h.front (stored byte new e b q);
+          size = length-set now last stored ∙ h.size;
+          done = λ k b. turn_done k (omega arith) (ℕ_discrete k last) (dec_lt k (rows * row_bytes width));
+          copied = λ k b c. get_or-set_other now last k stored 0 (λ z. absurd (omega arith)) ∙ h.copied k (omega arith) c;
+          rest = drop-set-lt (height * row_bytes width) now last stored w ∙ h.rest;
         }
+
+  pub clearing_end : {rows : ℕ} {now : List ℕ} → Clearing width height bytes out rows now → height ≤ rows → rows ≤ height
+      → now ≡ begun (cleared width height bytes) out
+  unfolding begun cleared packed raster
+  clearing_end {rows} {now} h a b =
+      let n = height * row_bytes width in
+      let size = h.size in
+      let all : rows ≡ height = omega arith in
+      let e : n ≡ rows * row_bytes width = ap (λ m. m * row_bytes width) (sym all) in
+      let front = table_is (packed_at width bytes) n 0 (take n now) (length-take-le n now (omega arith))
+      (λ k l. get_or-take n now k 0 l ∙ h.done k (omega arith)) in
+      sym (take-append-drop n now) ∙ ap₂ (λ xs ys. xs ++ ys) front
+      (h.rest ∙ ap (λ m. drop m out) (sym (length-table (packed_at width bytes) n)))

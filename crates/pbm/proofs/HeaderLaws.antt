@@ -1,15 +1,20 @@
 -- Reading the header, step by step: the places that the code goes through are the places where the definition cuts the file.
 use Prim.Native.Nat.{ℕ, ◌+◌, ◌≤◌, ◌<◌, min}
-use native.Mathlib.Decide.{dec_lt}
+use native.Mathlib.Decide.{dec_lt, ℕ_discrete}
 use native.Mathlib.Omega.{arith}
 use mathlib.Core.Path.{◌≡◌, refl, sym, ap, ap₂, ◌∙◌}
-use mathlib.Core.Bool.{Bool, true, false, ◌&&◌, true≢false, false≢true}
+use mathlib.Core.Bool.{Bool, true, false, not, true≢false, false≢true}
 use mathlib.Core.Logic.{◌≢◌}
 use mathlib.Core.List.{List, [], ◌∷◌}
 use lib.Dec.{eqb}
-use lib.ListN.{length, get_or, drop, length-drop}
+use lib.ListN.{length, drop, length-drop}
 use lib.Seq.{drop-drop}
-use borrow.Author.Tests.{lt-ltb, eq-eqb, ne_eqb}
+use Rattle.std.proofs.Math.Bool.{and-true}
+use borrow.Author.Tests.{lt-ltb, eq-eqb, ne_eqb, not-true, not-false}
+use Rattle.std.proofs.Common.{Bor, Option, None, Some, MatchOption}
+use Rattle.std.proofs.lemmas.Grind.{get_or_default_zero}
+use Rattle.std.specs.List.{starts_with}
+use Rattle.std.specs.Slice.{IsItemAt}
 use Rattle.basics.specs.Limits.{longest_side}
 use Rattle.basics.specs.Refusals.{first}
 use Rattle.sheet.specs.Sheets.{is_side_out, frame_refusals}
@@ -17,34 +22,21 @@ use Rattle.sheet.proofs.FrameLaws.{frame_sides}
 use Rattle.decimal.specs.Numbers.{is_digit, value, digit_run}
 use Rattle.pbm.specs.Header.{is_white, white_run, after_white, is_none, missing, number, field, begins_p4, broken, whole, header}
 use Rattle.pbm.specs.Steps.{amount_end, FieldRead, HeaderRead}
-use Rattle.pbm.proofs.RunLaws.{run_short, run_none, digit_run_lem}
+use Rattle.pbm.proofs.RunLaws.{run_short, run_none, run_there, digit_run_lem}
 
 -- "P4"
-pub p4_short : (file : List ℕ) → length file < 2 → false ≡ begins_p4 file
-unfolding begins_p4
-p4_short [] l = refl
-p4_short (a ∷ []) l = go (eqb a 80)
+eqb_turned : (m n : ℕ) → eqb m n ≡ eqb n m
+eqb_turned m n = go (ℕ_discrete m n)
   where
-    go : (b : Bool) → false ≡ b && false
-    go true = refl
-    go false = refl
-p4_short (a ∷ b ∷ rest) l = absurd (omega arith)
+    go : Dec (m ≡ n) → eqb m n ≡ eqb n m
+    go (yes e) = rw e
+    go (no k) = ne_eqb m n k ∙ sym (ne_eqb n m (λ e. k (sym e)))
 
-module _ (file : List ℕ) where
-  pub p4_other : get_or file 0 0 ≢ 80 → false ≡ begins_p4 file
-  unfolding begins_p4
-  p4_other n = rw (ne_eqb (get_or file 0 0) 80 n)
-
-  pub p4_second : get_or file 0 0 ≡ 80 → eqb (get_or file 1 0) 52 ≡ begins_p4 file
-  unfolding begins_p4
-  p4_second e = rw (eq-eqb (get_or file 0 0) 80 e)
-
-  pub p4_long : begins_p4 file ≡ true → 2 ≤ length file
-  p4_long e = go (dec_lt (length file) 2)
-    where
-      go : Dec (length file < 2) → 2 ≤ length file
-      go (yes l) = absurd (false≢true (p4_short file l ∙ e))
-      go (no l) = omega arith
+pub p4_is : (file : List ℕ) → starts_with eqb file (80 ∷ 52 ∷ []) ≡ begins_p4 file
+unfolding begins_p4
+p4_is [] = refl
+p4_is (a ∷ []) = rw (eqb_turned 80 a)
+p4_is (a ∷ b ∷ rest) = rw (eqb_turned 80 a, eqb_turned 52 b, and-true)
 
 -- a number: white from `at` to `start`, digits from there to `next`
 module _ (file : List ℕ) (at start : ℕ) (e : start ≡ at + length (white_run (drop at file))) where
@@ -131,6 +123,14 @@ side_cut side = go (dec_lt amount_end side)
     go (yes l) = side_far (min side amount_end) (omega arith) ∙ sym (side_far side (omega arith))
     go (no l) = let e : min side amount_end ≡ side = omega arith in ap is_side_out e
 
+-- is there a white byte at a place?
+pub white_there : (file : List ℕ) (at : ℕ) (byte : Option (Bor ℕ)) (white : Bool) → IsItemAt file at byte
+    → MatchOption byte (white ≡ false) (λ x. white ≡ is_white x.now) → white ≡ not (is_none (white_run (drop at file)))
+white_there file at None white item e = e ∙ sym (ap not (run_none is_white file at item.3))
+white_there file at (Some x) white item e =
+    let l = item.3.0 in
+    e ∙ ap is_white (item.1 ∙ get_or_default_zero file at x.now l) ∙ run_there is_white file at l
+
 -- the answers of the header's step
 module _ (file : List ℕ) where
   pub header_21 : begins_p4 file ≡ false → HeaderRead file 21 0 0 0
@@ -154,33 +154,36 @@ module _ (file : List ℕ) where
     }
 
     -- the two numbers as they were read
-    module _ {found₁ : Bool} {width gap : ℕ} (f : FieldRead file 2 found₁ width gap) where
-      pub lost_width : found₁ ≡ false → HeaderRead file 22 0 0 0
-      lost_width z = header_22 (without_width file p (f.lost z))
+    pub lost_width : FieldRead file 2 false 0 0 → HeaderRead file 22 0 0 0
+    lost_width f = header_22 (without_width file p (f.lost refl))
 
-      module _ {found₂ : Bool} {height end : ℕ} (t : found₁ ≡ true) (g : FieldRead file gap found₂ height end) where
-        pub lost_height : found₂ ≡ false → HeaderRead file 22 0 0 0
-        lost_height z = header_22 (without_height file p (f.there t).0 (drop gap file) (f.there t).1 (g.lost z))
+    module _ {width gap : ℕ} (f : FieldRead file 2 true width gap) where
+      pub lost_height : FieldRead file gap false 0 0 → HeaderRead file 22 0 0 0
+      lost_height g = header_22 (without_height file p (f.there refl).0 (drop gap file) (f.there refl).1 (g.lost refl))
 
-        module _ (u : found₂ ≡ true) where
-          pub lost_end : is_none (white_run (drop end file)) ≡ true → HeaderRead file 22 0 0 0
-          lost_end z = header_22 (without_end file p (f.there t).0 (drop gap file) (f.there t).1 (g.there u).0
-              (drop end file) (g.there u).1 z)
+      module _ {height end : ℕ} (g : FieldRead file gap true height end) where
+        pub lost_end : false ≡ not (is_none (white_run (drop end file))) → HeaderRead file 22 0 0 0
+        lost_end z = header_22 (without_end file p (f.there refl).0 (drop gap file) (f.there refl).1 (g.there refl).0
+            (drop end file) (g.there refl).1 (not-false _ (sym z)))
 
+        module _ (z : true ≡ not (is_none (white_run (drop end file)))) where
           -- a white byte there is, so the raster begins within the file
-          end_within : is_none (white_run (drop end file)) ≡ false → end + 1 ≤ length file
-          end_within z = go (dec_lt end (length file))
+          end_within : end + 1 ≤ length file
+          end_within = go (dec_lt end (length file))
             where
               go : Dec (end < length file) → end + 1 ≤ length file
               go (yes l) = omega arith
-              go (no l) = absurd (true≢false (sym (run_none is_white file end (let h : length file ≤ end = omega arith in h)) ∙ z))
+              go (no l) = absurd (true≢false
+                  (z ∙ ap not (run_none is_white file end (let h : length file ≤ end = omega arith in h))))
 
-          pub found_header : is_none (white_run (drop end file)) ≡ false → (refusal : ℕ)
-              → refusal ≡ first (frame_refusals width height) → (at : ℕ) → at ≡ end + 1 → HeaderRead file refusal width height at
-          found_header z refusal r at a =
-              let l = end_within z in
-              header_2 refusal width height at (f.there t).0 (g.there u).0 (omega arith)
-              (header_whole file p (f.there t).0 (drop gap file) (f.there t).1 (g.there u).0 (drop end file)
-              (g.there u).1 z ∙ ap (whole (f.there t).0 (g.there u).0)
-              (drop-drop 1 end file ∙ ap (λ k. drop k file) (sym a)))
-              (f.there t).2 (g.there u).2 r
+          pub found_header : (refusal : ℕ) → refusal ≡ first (frame_refusals width height)
+              → HeaderRead file refusal width height (end + 1)
+          found_header refusal r =
+              header_2 refusal width height (end + 1) (f.there refl).0 (g.there refl).0 end_within
+              (header_whole file p (f.there refl).0 (drop gap file) (f.there refl).1 (g.there refl).0 (drop end file)
+              (g.there refl).1 (not-true _ (sym z)) ∙ ap (whole (f.there refl).0 (g.there refl).0) (drop-drop 1 end file))
+              (f.there refl).2 (g.there refl).2 r
+
+          pub lost_frame : (refusal : ℕ) → refusal ≢ 0 → refusal ≡ first (frame_refusals width height)
+              → HeaderRead file refusal 0 0 0
+          lost_frame refusal n r = record { first_is = (found_header refusal r).first_is; accepted = λ e. absurd (n e) }

@@ -11,11 +11,12 @@ use lib.Dec.{eqb}
 use lib.ListN.{length, get_or, drop}
 use lib.Seq.{drop-append_seam}
 use borrow.Author.Tests.{ne_eqb, eqb-true}
+use Rattle.basics.proofs.BoundLaws.{both}
 use Rattle.decimal.specs.Numbers.{is_digit, value, digit_run}
 use Rattle.decimal.proofs.NumberLaws.{digit_bounds}
 use Rattle.pbm.specs.Header.{is_white, all, run, white_run, after_white, after_digits, is_none, Field, missing, number, field}
 use Rattle.pbm.specs.Header.{begins_p4, broken, whole, header, Layout}
-use Rattle.pbm.proofs.RunLaws.{both, run_stops, run_more, run_append, run_other, run_front, run_all, run_some, digit_run_lem}
+use Rattle.pbm.proofs.RunLaws.{run_stops, run_more, run_append, run_other, run_front, run_all, run_some, digit_run_lem}
 use Rattle.pbm.proofs.RunLaws.{not_empty, not_none}
 use Rattle.pbm.proofs.HeaderLaws.{without_width, without_height, without_end, header_whole}
 
@@ -87,7 +88,8 @@ laid_field bytes amount rest e = go (is_none (white_run bytes)) (is_none (digit_
         record {
           white = white_run bytes;
           row = digit_run (after_white bytes);
-          bytes_are = run_front is_white bytes ∙ ap (λ l. white_run bytes ++ l) (f ∙ ap (λ l. digit_run (after_white bytes) ++ l) r);
+          bytes_are = run_front is_white bytes
+              ∙ ap (λ l. white_run bytes ++ l) (f ∙ ap (λ l. digit_run (after_white bytes) ++ l) r);
           some_white = not_empty (white_run bytes) p;
           some_digits = not_empty (digit_run (after_white bytes)) q;
           all_white = run_all is_white bytes;

@@ -1,4 +1,4 @@
--- A row's bytes are copied as they are, all but the last, whose padding bits are taken off as a remainder. A byte is the sum of
+-- A row's bytes are copied as they are, all but the last, whose padding bits are shifted off. A byte is the sum of
 -- its bits by their weights, so without its lowest bits it is the sum of the others: omega shows it for each of the eight numbers
 -- of bits that a last byte can keep.
 use Prim.Native.Nat.{ℕ, zero, suc, ◌+◌, ◌-◌, ◌*◌, ◌/◌, ◌%◌, ◌^◌, ◌≤◌, ◌<◌, min}

@@ -7,11 +7,11 @@ use mathlib.Core.Logic.{◌≢◌}
 use mathlib.Core.Bool.{true, false, not, ◌||◌, true≢false}
 use mathlib.Core.List.{List, [], ◌∷◌, ◌++◌}
 use lib.Dec.{ltb}
-use lib.ListN.{length, take, drop, length-drop}
+use lib.ListN.{length, take, drop}
 use borrow.Author.Tests.{lt-ltb, le-ltb, ltb-false, not-false}
 use Rattle.basics.specs.Limits.{longest_side}
 use Rattle.basics.specs.Refusals.{first}
-use Rattle.basics.proofs.RefusalLaws.{first_refused, first_accepted, first_both, passed, refuses, accepts, rule_unique}
+use Rattle.basics.proofs.RefusalLaws.{first_accepted, first_both, judged_first, passed, refuses, accepts, rule_unique}
 use Rattle.sheet.specs.Sheets.{row_bytes, is_side_out, frame_refusals}
 use Rattle.sheet.proofs.FrameLaws.{frame_sides}
 use Rattle.pbm.specs.Header.{Header, broken, whole, begins_p4, header}
@@ -25,15 +25,6 @@ use Rattle.pbm.proofs.PackingLaws.{length_cleared}
 
 -- the raster's refusals
 module _ (width height : ℕ) (raster : List ℕ) where
-  pub raster_short : length raster < height * row_bytes width → 23 ≡ first (raster_refusals width height raster)
-  raster_short l = rw (lt-ltb (length raster) (height * row_bytes width) l)
-
-  pub raster_long : height * row_bytes width < length raster → 24 ≡ first (raster_refusals width height raster)
-  raster_long l = rw (
-    le-ltb (length raster) (height * row_bytes width) (omega arith),
-    lt-ltb (height * row_bytes width) (length raster) l,
-  )
-
   pub raster_exact : length raster ≡ height * row_bytes width → 0 ≡ first (raster_refusals width height raster)
   raster_exact e = rw (
     le-ltb (length raster) (height * row_bytes width) (omega arith),
@@ -70,69 +61,57 @@ module _ (file out : List ℕ) where
   read_unique m n width height width' height' x y =
       rule_unique m n (width, height, x) (width', height', y)
 
-  module _ {number width height at : ℕ} (r : HeaderRead file number width height at) where
-    pub header_refuses : number ≢ 0 → ReadsPbm file out number 0 0 out
-    header_refuses n = refuses number n
-        (r.first_is ∙ sym (first_refused (header_refusals file) (body_refusals (header file) out) (λ z. n (r.first_is ∙ z))))
+  pub header_refuses : {number width height at : ℕ} → HeaderRead file number width height at → number ≢ 0
+      → ReadsPbm file out number 0 0 out
+  header_refuses {number} r n = refuses number n
+      (judged_first (header_refusals file) (body_refusals (header file) out) n r.first_is)
 
-    module _ (z : number ≡ 0) where
-      found : header file ≡ whole width height (drop at file)
-      found = (r.accepted z).1
+  module _ {width height at : ℕ} (r : HeaderRead file 0 width height at) where
+    found : header file ≡ whole width height (drop at file)
+    found = (r.accepted refl).1
 
-      pub at_within : at ≤ length file
-      at_within = (r.accepted z).0
+    begins : (not (begins_p4 file) ≡ false) × (first ((22, is_broken (header file)) ∷ frame_of (header file)) ≡ 0)
+    begins = passed 21 (not (begins_p4 file)) ((22, is_broken (header file)) ∷ frame_of (header file)) (λ n. omega arith)
+        (sym r.first_is)
 
-      begins : (not (begins_p4 file) ≡ false) × (first ((22, is_broken (header file)) ∷ frame_of (header file)) ≡ 0)
-      begins = passed 21 (not (begins_p4 file)) ((22, is_broken (header file)) ∷ frame_of (header file)) (λ n. omega arith)
-          (sym r.first_is ∙ z)
+    p4 : begins_p4 file ≡ true
+    p4 = not-false (begins_p4 file) begins.0
 
-      p4 : begins_p4 file ≡ true
-      p4 = not-false (begins_p4 file) begins.0
+    frame_accepted : first (frame_refusals width height) ≡ 0
+    frame_accepted = sym (ap (λ h. first (frame_of h)) found)
+        ∙ (passed 22 (is_broken (header file)) (frame_of (header file)) (λ n. omega arith) begins.1).1
 
-      frame_accepted : first (frame_refusals width height) ≡ 0
-      frame_accepted = sym (ap (λ h. first (frame_of h)) found)
-          ∙ (passed 22 (is_broken (header file)) (frame_of (header file)) (λ n. omega arith) begins.1).1
+    pub frame_in : (1 ≤ width) × (width ≤ longest_side) × (height ≤ longest_side)
+    frame_in = let s = frame_sides width height frame_accepted in (s.0.0, s.0.1, s.1.1)
 
-      pub frame_in : (width ≤ longest_side) × (height ≤ longest_side)
-      frame_in = let s = frame_sides width height frame_accepted in (s.0.1, s.1.1)
+    -- the raster was handed on as a part of the file
+    module _ {judged : ℕ} (e : judged ≡ first (raster_refusals width height (take (length file - at) (drop at file)))) where
+      judged_is : judged ≡ first (raster_refusals width height (drop at file))
+      judged_is = e ∙ ap (λ raster. first (raster_refusals width height raster)) (part_is at file)
 
-      -- the raster was handed on as a part of the file
-      module _ {judged : ℕ} (e : judged ≡ first (raster_refusals width height (take (length file - at) (drop at file)))) where
-        judged_is : judged ≡ first (raster_refusals width height (drop at file))
-        judged_is = e ∙ ap (λ raster. first (raster_refusals width height raster)) (part_is at file)
+      pub raster_refuses : judged ≢ 0 → ReadsPbm file out judged 0 0 out
+      raster_refuses n = refuses judged n
+          (judged_first (raster_refusals width height (drop at file)) (room_refusals (length (drop at file)) out) n judged_is
+          ∙ sym (whole_left file out p4 found frame_accepted))
 
-        pub raster_refuses : judged ≢ 0 → ReadsPbm file out judged 0 0 out
-        raster_refuses n = refuses judged n
-            (judged_is ∙ sym (whole_left file out p4 found frame_accepted
-            ∙ first_refused (raster_refusals width height (drop at file)) (room_refusals (length (drop at file)) out)
-            (λ y. n (judged_is ∙ y))))
+    module _ (e : 0 ≡ first (raster_refusals width height (take (length file - at) (drop at file)))) where
+      all_there : first (raster_refusals width height (drop at file)) ≡ 0
+      all_there = sym (judged_is e)
 
-        module _ (y : judged ≡ 0) where
-          pub room_refuses : length out < length file - at → ReadsPbm file out 11 0 0 out
-          room_refuses l = let d = length-drop at file in
-              refuses 11 (λ n. omega arith)
-              (sym (whole_room file out p4 found frame_accepted (sym judged_is ∙ y)
-              ∙ rw (lt-ltb (length out) (length (drop at file)) (omega arith))))
+      pub room_refuses : length out < length (take (length file - at) (drop at file)) → ReadsPbm file out 11 0 0 out
+      room_refuses l = let p = ap length (part_is at file) in
+          refuses 11 (λ n. omega arith)
+          (sym (whole_room file out p4 found frame_accepted all_there
+          ∙ rw (lt-ltb (length out) (length (drop at file)) (omega arith))))
 
-          -- all of the raster is there, and there is room for it
-          raster_size : length (drop at file) ≡ height * row_bytes width
-          raster_size = raster_accepted width height (drop at file) (sym judged_is ∙ y)
-
-          pub copy_there : height * row_bytes width ≤ length (take (length file - at) (drop at file))
-          copy_there = let s = raster_size in let p = ap length (part_is at file) in omega arith
-
-          module _ (l : length file - at ≤ length out) where
-            pub copy_room : height * row_bytes width ≤ length out
-            copy_room = let s = raster_size in let d = length-drop at file in omega arith
-
-            pub read_accepts : {after : List ℕ}
-                → after ≡ begun (cleared width height (take (length file - at) (drop at file))) out
-                → ReadsPbm file out 0 width height after
-            read_accepts {after} h =
-                let d = length-drop at file in
-                accepts (width, height, after) (whole_accepted file out p4 found frame_accepted (sym judged_is ∙ y) (omega arith))
-                (ap (λ text. (width, height, text)) (h ∙ ap (λ raster. begun (cleared width height raster) out) (part_is at file))
-                ∙ sym (ap (λ h. read_answer h out) found))
+      pub read_accepts : length (take (length file - at) (drop at file)) ≤ length out → {after : List ℕ}
+          → after ≡ begun (cleared width height (take (length file - at) (drop at file))) out
+          → ReadsPbm file out 0 width height after
+      read_accepts l {after} h =
+          let p = ap length (part_is at file) in
+          accepts (width, height, after) (whole_accepted file out p4 found frame_accepted all_there (omega arith))
+          (ap (λ text. (width, height, text)) (h ∙ ap (λ raster. begun (cleared width height raster) out) (part_is at file))
+          ∙ sym (ap (λ h. read_answer h out) found))
 
 -- WHAT WAS READ, where nothing was refused: a whole header with an accepted frame, and its raster, cleared, in front of the
 -- output

@@ -1,21 +1,19 @@
 -- Rows of bytes of one kind. The run at the front of a list ends with the list, and at a byte of another kind; so what is all
--- of one kind, with such an end after it, is the run. A loop that goes along the run stands before the same end at each turn.
-use Prim.Native.Nat.{ℕ, suc, ◌+◌, ◌≤◌, ◌<◌}
-use native.Mathlib.Numerals.{add-one}
+-- of one kind, with such an end after it, is the run.
+use Prim.Native.Nat.{ℕ, suc, ◌≤◌, ◌<◌}
 use native.Mathlib.Omega.{arith}
-use mathlib.Core.Path.{◌≡◌, refl, sym, ap, ◌∙◌}
-use mathlib.Core.Bool.{Bool, true, false, not, cond, ◌&&◌, false≢true}
+use mathlib.Core.Path.{◌≡◌, refl, ap, ◌∙◌}
+use mathlib.Core.Bool.{Bool, true, false, not, cond, ◌&&◌}
 use mathlib.Core.Logic.{◌≢◌}
 use mathlib.Core.List.{List, [], ◌∷◌, ◌++◌}
-use lib.ListN.{length, get_or, drop, length-append, drop_of_length-le}
+use lib.ListN.{length, get_or, take, drop, length-append, drop_of_length-le}
 use lib.Seq.{drop-cons}
+use Rattle.std.proofs.lemmas.List.Sums.{take_while-cons}
+use Rattle.std.specs.List.{prefix_len}
 use borrow.Author.Tests.{ne_eqb, eqb-false}
+use Rattle.basics.proofs.BoundLaws.{both}
 use Rattle.decimal.specs.Numbers.{is_digit, digits_only, digit_run}
 use Rattle.pbm.specs.Header.{all, run, is_none}
-
-pub both : (a b : Bool) → a && b ≡ true → (a ≡ true) × (b ≡ true)
-both true b e = (refl, e)
-both false b e = absurd (false≢true e)
 
 module _ (kind : ℕ → Bool) where
   run_end : run kind [] ≡ []
@@ -78,6 +76,12 @@ module _ (kind : ℕ → Bool) where
   run_short bytes = let e = ap length (run_front bytes) ∙ length-append (run kind bytes) (drop (length (run kind bytes)) bytes) in
       omega arith
 
+  -- what an iterator takes, while bytes are of the kind, is the run
+  pub taken_is : (bytes : List ℕ) → take (prefix_len kind bytes) bytes ≡ run kind bytes
+  unfolding run
+  taken_is [] = refl
+  taken_is (byte ∷ rest) = take_while-cons kind byte rest ∙ ap (λ row. cond (kind byte) (byte ∷ row) []) (taken_is rest)
+
   -- is there a run at a place? At the end there is none, and before it the byte there decides
   pub run_none : (file : List ℕ) (at : ℕ) → length file ≤ at → is_none (run kind (drop at file)) ≡ true
   run_none file at l = ap (λ bytes. is_none (run kind bytes)) (drop_of_length-le file l) ∙ ap is_none run_end
@@ -111,27 +115,3 @@ not_empty row e z = eqb-false (length row) 0 e (ap length z)
 pub not_none : (row : List ℕ) → row ≢ [] → is_none row ≡ false
 not_none [] n = absurd (n refl)
 not_none (byte ∷ row) n = ne_eqb (length (byte ∷ row)) 0 (λ z. omega arith)
-
--- a loop along the run of `kind` from `at` on
-pub record Skipping (kind : ℕ → Bool) (file : List ℕ) (at i : ℕ) : Type 0 where
-  pub within : i ≤ length file
-  pub place : i + length (run kind (drop i file)) ≡ at + length (run kind (drop at file))
-
-pub skipping_start : (kind : ℕ → Bool) (file : List ℕ) (at : ℕ) → at ≤ length file → Skipping kind file at at
-skipping_start kind file at l = record { within = l; place = refl }
-
-module _ {kind : ℕ → Bool} {file : List ℕ} {at i : ℕ} (h : Skipping kind file at i) where
-  pub skipping_turn : i < length file → kind (get_or file i 0) ≡ true → Skipping kind file at (i + 1)
-  skipping_turn l e =
-      let r : run kind (drop i file) ≡ get_or file i 0 ∷ run kind (drop (i + 1) file) = ap (run kind) (drop-cons file i 0 l)
-      ∙ run_more kind (get_or file i 0) (drop (suc i) file) e
-      ∙ ap (λ k. get_or file i 0 ∷ run kind (drop k file)) (sym (add-one i)) in
-      let s = ap length r in
-      record { within = omega arith; place = omega arith }
-
-  pub skipping_stop : i < length file → kind (get_or file i 0) ≡ false → i ≡ at + length (run kind (drop at file))
-  skipping_stop l e = let s =
-      ap length (ap (run kind) (drop-cons file i 0 l) ∙ run_stops kind (get_or file i 0) (drop (suc i) file) e) in omega arith
-
-  pub skipping_end : length file ≤ i → i ≡ at + length (run kind (drop at file))
-  skipping_end l = let s = ap length (ap (run kind) (drop_of_length-le file l) ∙ run_end kind) in omega arith

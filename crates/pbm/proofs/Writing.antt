@@ -10,13 +10,13 @@ use borrow.Author.Tests.{lt-ltb, le-ltb}
 use borrow.Rule.Slice.PartMut.{put_mid}
 use Rattle.basics.specs.Limits.{longest_side}
 use Rattle.basics.specs.Refusals.{first}
-use Rattle.basics.proofs.RefusalLaws.{first_refused, first_accepted, refuses, accepts, rule_unique}
+use Rattle.basics.proofs.RefusalLaws.{first_accepted, judged_first, refuses, accepts, rule_unique}
 use Rattle.decimal.specs.Numbers.{digits}
 use Rattle.decimal.proofs.NumberLaws.{length_below}
 use Rattle.sheet.specs.Sheets.{row_bytes, sheet_refusals}
 use Rattle.sheet.proofs.FrameLaws.{frame_sides, raster_small, sheet_accepted}
 use Rattle.text.specs.Writing.{begun, Wrote}
-use Rattle.text.proofs.WroteLaws.{fits_as, room_first, room_second, wrote_both, wrote_as, wrote_length, wrote_front, wrote_part}
+use Rattle.text.proofs.WroteLaws.{wrote_both, wrote_length, wrote_front, wrote_part}
 use Rattle.text.proofs.WroteLaws.{part_is}
 use Rattle.pbm.specs.Pbm.{cleared, pbm_header, pbm_text, room_refusals, WritesPbm}
 use Rattle.pbm.proofs.PackingLaws.{length_cleared}
@@ -29,34 +29,10 @@ length_header width height =
     omega arith
 
 -- the header in the pieces that are written: "P4", LF and the sides, then LF
-abbrev sides : ℕ → ℕ → List ℕ
-sides width height = ((80 ∷ 52 ∷ 10 ∷ []) ++ digits width) ++ ((32 ∷ []) ++ digits height)
-
-header_pieces : (width height : ℕ) → sides width height ++ (10 ∷ []) ≡ pbm_header width height
+pub header_pieces : (width height : ℕ)
+    → (((80 ∷ 52 ∷ 10 ∷ []) ++ digits width) ++ ((32 ∷ []) ++ digits height)) ++ (10 ∷ []) ≡ pbm_header width height
 unfolding pbm_header
 header_pieces width height = simp append_assoc
-
-module _ (width height : ℕ) (out : List ℕ) (fits : length (pbm_header width height) ≤ length out) where
-  room : 0 + length (sides width height ++ (10 ∷ [])) ≤ length out
-  room = fits_as (sides width height ++ (10 ∷ [])) (pbm_header width height) 0 (length out) (header_pieces width height)
-      (omega arith)
-
-  pub sides_room : 0 + length (sides width height) ≤ length out
-  sides_room = room_first (sides width height) (10 ∷ []) 0 out room
-
-  module _ {b : List ℕ} {m : ℕ} (p : Wrote (sides width height) 0 out b m) where
-    pub end_room : m + 1 ≤ length b
-    end_room = room_second (sides width height) (10 ∷ []) 0 out room p
-
-    pub header_wrote : {c : List ℕ} {n : ℕ} → Wrote (10 ∷ []) m b c n → Wrote (pbm_header width height) 0 out c n
-    header_wrote q = wrote_as (sides width height ++ (10 ∷ [])) (pbm_header width height) (header_pieces width height)
-        (wrote_both (sides width height) (10 ∷ []) 0 out room p q)
-
--- the size, from the counts of digits
-pub sizes : (width height width_count height_count : ℕ) (sheet : List ℕ) → width_count ≡ length (digits width)
-    → height_count ≡ length (digits height)
-    → 5 + width_count + height_count + length sheet ≡ 5 + length (digits width) + length (digits height) + length sheet
-sizes width height width_count height_count sheet a b = omega arith
 
 module _ (width height : ℕ) (sheet out : List ℕ) where
   -- NO SECOND OUTCOME
@@ -64,79 +40,72 @@ module _ (width height : ℕ) (sheet out : List ℕ) where
       → WritesPbm width height sheet out n size' y → (m ≡ n) × (◌≡◌ {A = ℕ × List ℕ} (size, x) (size', y))
   write_unique m n size size' x y = rule_unique m n (size, x) (size', y)
 
-  module _ {number : ℕ} (e : number ≡ first (sheet_refusals width height sheet)) where
-    pub sheet_refuses : number ≢ 0 → WritesPbm width height sheet out number 0 out
-    sheet_refuses n = refuses number n
-        (e ∙ sym (first_refused (sheet_refusals width height sheet) (room_refusals (length (pbm_text width height sheet)) out)
-        (λ z. n (e ∙ z))))
+  pub sheet_refuses : {number : ℕ} → number ≢ 0 → number ≡ first (sheet_refusals width height sheet)
+      → WritesPbm width height sheet out number 0 out
+  sheet_refuses {number} n e = refuses number n
+      (judged_first (sheet_refusals width height sheet) (room_refusals (length (pbm_text width height sheet)) out) n e)
 
-    module _ (z : number ≡ 0) where
-      sheet_size_lem : length sheet ≡ height * row_bytes width
-      sheet_size_lem = (sheet_accepted width height sheet (sym e ∙ z)).1
+  module _ (e : 0 ≡ first (sheet_refusals width height sheet)) where
+    sheet_size_lem : length sheet ≡ height * row_bytes width
+    sheet_size_lem = (sheet_accepted width height sheet (sym e)).1
 
-      pub sheet_there : height * row_bytes width ≤ length sheet
-      sheet_there = let q = sheet_size_lem in omega arith
+    pub sheet_in_lem : (1 ≤ width) × (width ≤ longest_side) × (height ≤ longest_side)
+    sheet_in_lem = let s = frame_sides width height (sheet_accepted width height sheet (sym e)).0 in (s.0.0, s.0.1, s.1.1)
 
-      pub sheet_in_lem : (width ≤ longest_side) × (height ≤ longest_side)
-      sheet_in_lem = let s = frame_sides width height (sheet_accepted width height sheet (sym e ∙ z)).0 in (s.0.1, s.1.1)
+    -- the sum of the sizes is far below a word
+    pub small : (length (digits width) ≤ 4) × (length (digits height) ≤ 4) × (length sheet ≤ longest_side * 512)
+    small =
+        let i = sheet_in_lem in
+        let q = sheet_size_lem in
+        let r = raster_small width height i.1 i.2 in
+        (length_below 4 width (omega arith) (omega arith), length_below 4 height (omega arith) (omega arith), omega arith)
 
-      -- the sum of the sizes is far below a word
-      pub small : (length (digits width) ≤ 4) × (length (digits height) ≤ 4) × (length sheet ≤ longest_side * 512)
-      small =
-          let i = sheet_in_lem in
+    module _ {size : ℕ} (s : size ≡ 5 + length (digits width) + length (digits height) + length sheet) where
+      size_is : size ≡ length (pbm_text width height sheet)
+      unfolding pbm_text
+      size_is =
+          let a = length-append (pbm_header width height) (cleared width height sheet) in
+          let h = length_header width height in
+          let l = length_cleared width height sheet in
           let q = sheet_size_lem in
-          let r = raster_small width height i.0 i.1 in
-          (length_below 4 width (omega arith) (omega arith), length_below 4 height (omega arith) (omega arith), omega arith)
+          omega arith
 
-      module _ {size : ℕ} (s : size ≡ 5 + length (digits width) + length (digits height) + length sheet) where
-        size_is : size ≡ length (pbm_text width height sheet)
-        unfolding pbm_text
-        size_is =
-            let a = length-append (pbm_header width height) (cleared width height sheet) in
-            let h = length_header width height in
-            let l = length_cleared width height sheet in
-            let q = sheet_size_lem in
-            omega arith
+      room_left : first (sheet_refusals width height sheet ++ room_refusals (length (pbm_text width height sheet)) out)
+          ≡ first (room_refusals (length (pbm_text width height sheet)) out)
+      room_left = first_accepted (sheet_refusals width height sheet) (room_refusals (length (pbm_text width height sheet)) out) tt
+          (sym e)
 
-        room_left : first (sheet_refusals width height sheet ++ room_refusals (length (pbm_text width height sheet)) out)
-            ≡ first (room_refusals (length (pbm_text width height sheet)) out)
-        room_left = first_accepted (sheet_refusals width height sheet) (room_refusals (length (pbm_text width height sheet)) out) tt
-            (sym e ∙ z)
+      pub write_room_refuses : length out < size → WritesPbm width height sheet out 11 0 out
+      write_room_refuses l = let q = size_is in
+          refuses 11 (λ n. omega arith)
+          (sym (room_left ∙ rw (lt-ltb (length out) (length (pbm_text width height sheet)) (omega arith))))
 
-        pub write_room_refuses : length out < size → WritesPbm width height sheet out 11 0 out
-        write_room_refuses l = let q = size_is in
-            refuses 11 (λ n. omega arith)
-            (sym (room_left ∙ rw (lt-ltb (length out) (length (pbm_text width height sheet)) (omega arith))))
+      module _ (l : size ≤ length out) where
+        pub header_room : length (pbm_header width height) ≤ length out
+        header_room = let h = length_header width height in omega arith
 
-        module _ (l : size ≤ length out) where
-          pub header_room : length (pbm_header width height) ≤ length out
-          header_room = let h = length_header width height in omega arith
+        -- the header stands in the output; the rest is lent for the raster
+        module _ {at : ℕ} {now : List ℕ} (h : Wrote (pbm_header width height) 0 out now at) where
+          same_length : length now ≡ length out
+          same_length = wrote_length (pbm_header width height) 0 out now at (let r = header_room in omega arith) h
 
-          -- the header stands in the output; the rest is lent for the raster
-          module _ {at : ℕ} {now : List ℕ} (h : Wrote (pbm_header width height) 0 out now at) where
-            same_length : length now ≡ length out
-            same_length = wrote_length (pbm_header width height) 0 out now at (let r = header_room in omega arith) h
+          pub part_room : height * row_bytes width ≤ length (take (length now - at) (drop at now))
+          part_room =
+              let o = same_length in
+              let p = h.place in
+              let d = ap length (part_is at now) ∙ length-drop at now in
+              let n = length_header width height in
+              let q = sheet_size_lem in
+              omega arith
 
-            pub at_room : at ≤ length now
-            at_room = let o = same_length in let r = header_room in let p = h.place in omega arith
-
-            pub part_room : height * row_bytes width ≤ length (take (length now - at) (drop at now))
-            part_room =
-                let o = same_length in
-                let p = h.place in
-                let d = ap length (part_is at now) ∙ length-drop at now in
-                let n = length_header width height in
-                let q = sheet_size_lem in
-                omega arith
-
-            pub write_accepts : {part : List ℕ} → part ≡ begun (cleared width height sheet) (take (length now - at) (drop at now))
-                → WritesPbm width height sheet out 0 size (put_mid at (length now - at) now part)
-            unfolding pbm_text
-            write_accepts {part} q =
-                let o = size_is in
-                let r : 0 + length (pbm_header width height ++ cleared width height sheet) ≤ length out = omega arith in
-                let w = wrote_both (pbm_header width height) (cleared width height sheet) 0 out r h
-                (wrote_part (cleared width height sheet) part now at q) in
-                accepts (size, put_mid at (length now - at) now part)
-                (room_left ∙ rw (le-ltb (length out) (length (pbm_text width height sheet)) (omega arith)))
-                (ap₂ (λ n text. (n, text)) size_is (wrote_front w).1)
+          pub write_accepts : {part : List ℕ} → part ≡ begun (cleared width height sheet) (take (length now - at) (drop at now))
+              → WritesPbm width height sheet out 0 size (put_mid at (length now - at) now part)
+          unfolding pbm_text
+          write_accepts {part} q =
+              let o = size_is in
+              let r : 0 + length (pbm_header width height ++ cleared width height sheet) ≤ length out = omega arith in
+              let w = wrote_both (pbm_header width height) (cleared width height sheet) 0 out r h
+              (wrote_part (cleared width height sheet) part now at q) in
+              accepts (size, put_mid at (length now - at) now part)
+              (room_left ∙ rw (le-ltb (length out) (length (pbm_text width height sheet)) (omega arith)))
+              (ap₂ (λ n text. (n, text)) size_is (wrote_front w).1)

@@ -1,9 +1,11 @@
 -- What reading and writing raw PBM answer.
-use Rattle.std.specs.Prelude.{ℕ, ◌*◌, ◌≡◌, Bool, true, false, not, List, [], ◌∷◌, ◌++◌, ltb, length}
-use Rattle.basics.specs.Refusals.{Refusal, Answers}
+use Rattle.std.specs.Prelude.{ℕ, ◌*◌, ◌≡◌, Bool, true, false, not, List, [], ◌∷◌, ◌++◌, ltb, length, Result}
+use Rattle.basics.specs.declared.refusal.Refusal as declared
+use Rattle.basics.specs.Refusals.{Refusal, Answers, value_or}
 use Rattle.decimal.specs.Numbers.{digits}
 use Rattle.text.specs.Writing.{begun}
 use Rattle.sheet.specs.Sheets.{row_bytes, pixel, frame_refusals, sheet_refusals, packed}
+use Rattle.pbm.specs.declared.Frame.{Frame}
 use Rattle.pbm.specs.Header.{Header, broken, whole, begins_p4, header}
 
 -- the sheet of a raster, padding cleared
@@ -49,6 +51,10 @@ ReadsPbm file out number width height after =
       0,
       out,
     ) (λ answer. answer ≡ read_answer (header file) out) number (width, height, after)
+
+-- the frame that a reading gives, or none
+abbrev pub frame_given : Result Frame declared.Refusal → Frame
+frame_given = value_or (record { width = 0; height = 0 })
 
 -- WRITING. "P4", LF, width, blank, height, LF, and the raster with padding 0
 unfoldable pub pbm_header : ℕ → ℕ → List ℕ

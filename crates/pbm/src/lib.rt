@@ -1,29 +1,30 @@
 // Raw PBM: sheets read from files and written to them.
 #![tactic(auto)]
 
-ghost use Rattle.std.specs.Prelude.{◌≡◌, false, not, cond, eqb, ◌+◌, ◌-◌, ◌*◌, ◌%◌, ◌^◌, ◌<◌, ◌≤◌, length, drop};
+ghost use Rattle.std.specs.Prelude.{◌≡◌, false, true, ◌+◌, ◌-◌, ◌*◌, ◌<◌, ◌≤◌, length, drop, MatchOption, MatchResult};
 ghost use Rattle.basics.specs.Limits.{longest_side};
-ghost use Rattle.basics.specs.Refusals.{first};
+ghost use Rattle.basics.specs.Refusals.{first, number_of, number, value_or};
 ghost use Rattle.sheet.specs.Sheets.{row_bytes};
-ghost use Rattle.pbm.specs.Header.{is_white, white_run, is_none, begins_p4};
+ghost use Rattle.pbm.specs.Header.{is_white, white_run};
 ghost use Rattle.pbm.specs.Steps.{FieldRead, HeaderRead};
 ghost use Rattle.text.specs.Writing.{begun, Wrote};
-ghost use Rattle.pbm.specs.Pbm.{cleared, raster_refusals, ReadsPbm, pbm_header, WritesPbm};
+ghost use Rattle.pbm.specs.Pbm.{cleared, raster_refusals, frame_given, ReadsPbm, pbm_header, WritesPbm};
 
-// Blank, TAB, CR or LF.
+use basics::Refusal;
+
+// The sides of a sheet.
+#[derive(Clone, Copy, Debug, PartialEq, Eq)]
+pub struct Frame {
+    pub width: usize,
+    pub height: usize,
+}
+
+// Blank, TAB, CR or LF; std's `is_ascii_whitespace` would take a form feed too.
+#[tactic(auto, unfolding(crate::specs::Header::is_white))]
 fn is_white(byte: u8) -> bool
     ensures { result ≡ is_white byte }
 {
-    if byte == b' ' {
-        return true;
-    }
-    if byte == b'\t' {
-        return true;
-    }
-    if byte == b'\r' {
-        return true;
-    }
-    byte == b'\n'
+    matches!(byte, b' ' | b'\t' | b'\r' | b'\n')
 }
 
 // The place after the white bytes that stand from `at` on.
@@ -31,285 +32,132 @@ fn skip_white(file: &[u8], at: usize) -> usize
     requires { at ≤ length file.now }
     ensures { result ≡ at + length (white_run (drop at file.now)) }
 {
-    let mut i = at;
-    while i < file.len() {
-        let byte = file[i];
-        if !is_white(byte) {
-            return i;
-        }
-        i += 1;
-    }
-    i
-}
-
-fn begins_p4(file: &[u8]) -> bool
-    ensures { result ≡ begins_p4 file.now }
-{
-    if file.len() < 2 {
-        return false;
-    }
-    if file[0] != b'P' {
-        return false;
-    }
-    file[1] == b'4'
+    at + file[at..]
+        .iter()
+        .take_while(|byte| is_white(**byte))
+        .count()
 }
 
 // A header's number is told apart up to here; no frame has such a side.
 const AMOUNT_END: usize = 65536;
 
-// A number of the header: whether there is one, its amount, AMOUNT_END for all from there on, and the place after it.
-#[derive(Clone, Copy)]
-struct FieldFound {
-    found: bool,
-    amount: usize,
-    next: usize,
-}
-
-fn no_field() -> FieldFound
-    ensures { result ≡ record { found = false; amount = 0; next = 0 } }
-{
-    FieldFound {
-        found: false,
-        amount: 0,
-        next: 0,
-    }
-}
-
-// Reads white bytes and a number from `at` on.
-fn read_field(file: &[u8], at: usize) -> FieldFound
+// Reads white bytes and a number from `at` on, as AMOUNT_END where it is larger.
+fn read_field(file: &[u8], at: usize) -> Option<decimal::Number>
     requires { at ≤ length file.now }
-    ensures { FieldRead file.now at result.found result.amount result.next }
+    ensures { MatchOption result (FieldRead file.now at false 0 0)
+        (λ field. FieldRead file.now at true field.value field.next) }
 {
     let start = skip_white(file, at);
-    if start == at {
-        return no_field();
-    }
     let number = decimal::read_number(file, start, AMOUNT_END);
-    let amount = number.value;
-    let next = number.next;
-    if next == start {
-        return no_field();
+    if start == at || number.next == start {
+        return None;
     }
-    FieldFound {
-        found: true,
-        amount: amount,
-        next: next,
-    }
+    Some(number)
 }
 
-// Is there a white byte at `at`?
-fn is_white_at(file: &[u8], at: usize) -> bool
-    requires { at ≤ length file.now }
-    ensures { result ≡ not (is_none (white_run (drop at file.now))) }
-{
-    if at == file.len() {
-        return false;
-    }
-    let byte = file[at];
-    is_white(byte)
-}
-
-// A header's refusal, or 0 with the frame and the place of the raster.
+// A header's frame, and the place of the raster.
 #[derive(Clone, Copy)]
-struct HeaderFound {
-    refusal: u32,
-    width: usize,
-    height: usize,
+struct Header {
+    frame: Frame,
     at: usize,
 }
 
-fn header_refused(number: u32) -> HeaderFound
-    ensures { result ≡ record { refusal = number; width = 0; height = 0; at = 0 } }
-{
-    HeaderFound {
-        refusal: number,
-        width: 0,
-        height: 0,
-        at: 0,
-    }
-}
-
 // Reads the header: refusals 21, 22 and 2.
-fn read_header(file: &[u8]) -> HeaderFound
-    ensures { HeaderRead file.now result.refusal result.width result.height result.at }
+fn read_header(file: &[u8]) -> Result<Header, Refusal>
+    ensures { MatchResult result (λ header. HeaderRead file.now 0 header.frame.width header.frame.height header.at)
+        (λ refusal. HeaderRead file.now (number_of refusal) 0 0 0) }
 {
-    if !begins_p4(file) {
-        return header_refused(21);
+    if !file.starts_with(b"P4") {
+        return Err(Refusal::NoPbm);
     }
-    let width_found = read_field(file, 2);
-    if !width_found.found {
-        return header_refused(22);
+    let width = read_field(file, 2).ok_or(Refusal::Header)?;
+    let height = read_field(file, width.next).ok_or(Refusal::Header)?;
+    if !file.get(height.next).is_some_and(|byte| is_white(*byte)) {
+        return Err(Refusal::Header);
     }
-    let after_width = width_found.next;
-    let height_found = read_field(file, after_width);
-    if !height_found.found {
-        return header_refused(22);
-    }
-    let after_height = height_found.next;
-    if !is_white_at(file, after_height) {
-        return header_refused(22);
-    }
-    let width = width_found.amount;
-    let height = height_found.amount;
-    let refusal = sheet::frame_refusal(width, height);
-    HeaderFound {
-        refusal: refusal,
-        width: width,
-        height: height,
-        at: after_height + 1,
+    let frame = Frame {
+        width: width.value,
+        height: height.value,
+    };
+    sheet::check_frame(frame.width, frame.height)?;
+    Ok(Header {
+        frame,
+        at: height.next + 1,
+    })
+}
+
+// Copies a frame's raster to the front of `out`, and clears the padding, the lowest bits of each row's last byte.
+fn copy_cleared(frame: Frame, raster: &[u8], out: &mut [u8])
+    requires frame { (1 ≤ frame.width) × (frame.width ≤ longest_side) × (frame.height ≤ longest_side) }
+    requires raster { frame.height * row_bytes frame.width ≤ length raster.now }
+    requires room { frame.height * row_bytes frame.width ≤ length out.old }
+    ensures { out.new ≡ begun (cleared frame.width frame.height raster.now) out.old }
+{
+    let row_bytes = sheet::row_bytes(frame.width);
+    let count = frame.height * row_bytes;
+    let padding = row_bytes * 8 - frame.width;
+    out[..count].copy_from_slice(&raster[..count]);
+    for row in 0..frame.height {
+        let last = row * row_bytes + row_bytes - 1;
+        out[last] = out[last] >> padding << padding;
     }
 }
 
-// 2 to the number of padding bits of a row: what is below it in the row's last byte is padding.
-fn padding_weight(width: usize) -> u8
-    requires { width ≤ longest_side }
-    ensures { result ≡ 2 ^ (row_bytes width * 8 - width) }
+// Refusals 23 and 24 of a raster against its frame.
+fn check_raster(frame: Frame, raster: &[u8]) -> Result<(), Refusal>
+    requires { (frame.width ≤ longest_side) × (frame.height ≤ longest_side) }
+    ensures { number result ≡ first (raster_refusals frame.width frame.height raster.now) }
 {
-    let padding = sheet::row_bytes(width) * 8 - width;
-    1u8 << padding
-}
-
-// A byte without its padding, where it is the last of its row.
-fn cleared_byte(byte: u8, left: usize, weight: u8) -> u8
-    requires { 0 < weight }
-    ensures { result ≡ cond (eqb left 1) (byte - byte % weight) byte }
-{
-    if left == 1 {
-        return byte - byte % weight;
-    }
-    byte
-}
-
-// The bytes of a row that are left after the next one; after the last, those of the next row.
-fn left_after(left: usize, row: usize) -> usize
-    requires { 0 < left }
-    ensures { result ≡ cond (eqb left 1) row (left - 1) }
-{
-    if left == 1 {
-        return row;
-    }
-    left - 1
-}
-
-// Copies the bytes of a frame's raster to the front of `out`, padding cleared.
-fn copy_cleared(width: usize, height: usize, raster: &[u8], out: &mut [u8])
-    requires { (width ≤ longest_side) ×
-        ((height ≤ longest_side) × ((height * row_bytes width ≤ length raster.now) × (height * row_bytes width ≤ length out.old))) }
-    ensures { out.new ≡ begun (cleared width height raster.now) out.old }
-{
-    let row = sheet::row_bytes(width);
-    let count = height * row;
-    let weight = padding_weight(width);
-    let mut left = row;
-    let mut k = 0;
-    while k < count {
-        let byte = cleared_byte(raster[k], left, weight);
-        out[k] = byte;
-        left = left_after(left, row);
-        k += 1;
-    }
-}
-
-// Refusals 23 and 24 of a raster against its frame, or 0.
-fn raster_refusal(width: usize, height: usize, raster: &[u8]) -> u32
-    requires { (width ≤ longest_side) × (height ≤ longest_side) }
-    ensures { result ≡ first (raster_refusals width height raster.now) }
-{
-    let count = height * sheet::row_bytes(width);
+    let count = frame.height * sheet::row_bytes(frame.width);
     if raster.len() < count {
-        return 23;
+        return Err(Refusal::ShortRaster);
     }
     if count < raster.len() {
-        return 24;
+        return Err(Refusal::LongRaster);
     }
-    0
-}
-
-#[derive(Clone, Copy)]
-pub struct ReadPbm {
-    pub refusal: u32,
-    pub width: usize,
-    pub height: usize,
-}
-
-fn read_refused(number: u32) -> ReadPbm
-    ensures { result ≡ record { refusal = number; width = 0; height = 0 } }
-{
-    ReadPbm {
-        refusal: number,
-        width: 0,
-        height: 0,
-    }
+    Ok(())
 }
 
 // Public: reads a raw PBM file; the sheet goes to the front of `out`, padding cleared. Refusals 21, 22, 2, 23, 24, 11.
-pub fn read_pbm(file: &[u8], out: &mut [u8]) -> ReadPbm
-    ensures { ReadsPbm file.now out.old result.refusal result.width result.height out.new }
+pub fn read_pbm(file: &[u8], out: &mut [u8]) -> Result<Frame, Refusal>
+    ensures { ReadsPbm file.now out.old (number result) (frame_given result).width (frame_given result).height
+        out.new }
 {
-    let header = read_header(file);
-    let refusal = header.refusal;
-    if refusal != 0 {
-        return read_refused(refusal);
+    let Header { frame, at } = read_header(file)?;
+    let raster = &file[at..];
+    check_raster(frame, raster)?;
+    if out.len() < raster.len() {
+        return Err(Refusal::OutputLength);
     }
-    let width = header.width;
-    let height = header.height;
-    let at = header.at;
-    let refusal = raster_refusal(width, height, &file[at..]);
-    if refusal != 0 {
-        return read_refused(refusal);
-    }
-    if out.len() < file.len() - at {
-        return read_refused(11);
-    }
-    copy_cleared(width, height, &file[at..], out);
-    ReadPbm {
-        refusal: 0,
-        width: width,
-        height: height,
-    }
+    copy_cleared(frame, raster, out);
+    Ok(frame)
 }
 
 // Writes "P4", LF, the width, a blank, the height and LF to the front of `out`, and gives the place after them.
-fn write_header(width: usize, height: usize, out: &mut [u8]) -> usize
-    requires { length (pbm_header width height) ≤ length out.old }
-    ensures { Wrote (pbm_header width height) 0 out.old out.new result }
+fn write_header(frame: Frame, out: &mut [u8]) -> usize
+    requires { length (pbm_header frame.width frame.height) ≤ length out.old }
+    ensures { Wrote (pbm_header frame.width frame.height) 0 out.old out.new result }
 {
-    let end = text::write_pair(b"P4\n", width, b" ", height, out, 0);
+    let end = text::write_pair(b"P4\n", frame.width, b" ", frame.height, out, 0);
     text::write_bytes(b"\n", out, end)
 }
 
-#[derive(Clone, Copy)]
-pub struct WritePbm {
-    pub refusal: u32,
-    pub length: usize,
-}
-
-fn write_refused(number: u32) -> WritePbm
-    ensures { result ≡ record { refusal = number; length = 0 } }
-{
-    WritePbm {
-        refusal: number,
-        length: 0,
-    }
-}
-
 // Public: writes a sheet as a raw PBM file to the front of `out`, and gives its length. Refusals 2, 3, 11.
-pub fn write_pbm(width: usize, height: usize, sheet: &[u8], out: &mut [u8]) -> WritePbm
-    ensures { WritesPbm width height sheet.now out.old result.refusal result.length out.new }
+pub fn write_pbm(
+    width: usize,
+    height: usize,
+    sheet: &[u8],
+    out: &mut [u8],
+) -> Result<usize, Refusal>
+    ensures { WritesPbm width height sheet.now out.old (number result) (value_or 0 result) out.new }
 {
-    let refusal = sheet::sheet_refusal(width, height, sheet);
-    if refusal != 0 {
-        return write_refused(refusal);
-    }
-    let count = sheet.len();
-    let size = 5 + decimal::digit_count(width) + decimal::digit_count(height) + count;
+    sheet::check_sheet(width, height, sheet)?;
+    let size = 5 + decimal::digit_count(width) + decimal::digit_count(height) + sheet.len();
     if out.len() < size {
-        return write_refused(11);
+        return Err(Refusal::OutputLength);
     }
-    let at = write_header(width, height, out);
-    copy_cleared(width, height, sheet, &mut out[at..]);
-    WritePbm {
-        refusal: 0,
-        length: size,
-    }
+    let frame = Frame { width, height };
+    let at = write_header(frame, out);
+    copy_cleared(frame, sheet, &mut out[at..]);
+    Ok(size)
 }

@@ -2,13 +2,13 @@
 use Prim.Native.Nat.{ℕ, zero, suc, ◌+◌, ◌-◌, ◌*◌, ◌≤◌, ◌<◌}
 use native.Mathlib.Nat.{suc-mul}
 use native.Mathlib.Omega.{arith}
-use mathlib.Core.Path.{◌≡◌, refl, sym, ap, ap₂, ◌∙◌}
-use mathlib.Core.List.{List, [], ◌++◌, append_assoc, append-nil}
+use mathlib.Core.Path.{◌≡◌, sym, ap, ap₂, ◌∙◌}
+use mathlib.Core.List.{List, ◌++◌, append_assoc, append-nil}
 use lib.ListN.{length, take, drop, length-append}
 use lib.Seq.{take_at, drop_at}
 use Rattle.pgm.specs.PgmText.{frame_row, levels_text}
 use Rattle.text.specs.Writing.{Wrote}
-use Rattle.text.proofs.WroteLaws.{wrote_more, wrote_length, wrote_as, wrote_none}
+use Rattle.text.proofs.WroteLaws.{wrote_more, wrote_length, wrote_as}
 
 pub record LevelsWriting (width height : ℕ) (levels : List ℕ) (at : ℕ) (buffer : List ℕ) (size : ℕ) (rest : List ℕ) (end : ℕ)
     (out : List ℕ) : Type 0 where
@@ -18,17 +18,6 @@ pub record LevelsWriting (width height : ℕ) (levels : List ℕ) (at : ℕ) (bu
   pub left : length rest ≡ rows * width
   pub wrote : Wrote text at buffer out end
   pub whole : text ++ levels_text width rows rest ≡ levels_text width height levels
-
-pub levels_start : (width height : ℕ) (levels : List ℕ) (at : ℕ) (buffer : List ℕ) (size : ℕ) (rest : List ℕ) → size ≡ width
-    → rest ≡ levels → length levels ≡ height * width → LevelsWriting width height levels at buffer size rest at buffer
-levels_start width height levels at buffer size rest s e l = record {
-  text = [];
-  rows = height;
-  wide = s;
-  left = ap length e ∙ l;
-  wrote = wrote_none at buffer;
-  whole = ap (levels_text width height) e;
-}
 
 module _ {width height : ℕ} {levels : List ℕ} {at : ℕ} {buffer : List ℕ} {size : ℕ} {rest : List ℕ} {end : ℕ} {out : List ℕ}
     (h : LevelsWriting width height levels at buffer size rest end out) (some : 0 < width)

@@ -2,7 +2,6 @@ pub mod RowLaws
 pub mod SizeLaws
 pub mod LevelLaws
 pub mod HeaderLaws
-pub mod TextLaws
 pub mod LineLaws
 pub mod LevelLines
 pub mod FillLaws

@@ -3,7 +3,7 @@
 use Prim.Native.Nat.{ℕ, ◌+◌, ◌-◌, ◌≤◌, ◌<◌}
 use native.Mathlib.Numerals.{add-one}
 use native.Mathlib.Omega.{arith}
-use mathlib.Core.Path.{◌≡◌, refl, sym, ap, ap₂, ◌∙◌}
+use mathlib.Core.Path.{◌≡◌, sym, ap, ap₂, ◌∙◌}
 use mathlib.Core.Bool.{Bool, true, false, cond}
 use mathlib.Core.List.{List, [], ◌∷◌, ◌++◌, append_assoc}
 use lib.ListN.{length, get_or, take, drop, set, length-append, drop_of_length-le}
@@ -11,7 +11,7 @@ use lib.Seq.{take_all, drop-cons}
 use Rattle.decimal.specs.Numbers.{digits}
 use Rattle.pgm.specs.PgmText.{stays, parting, column_after, level_row, frame_row}
 use Rattle.text.specs.Writing.{Wrote}
-use Rattle.text.proofs.WroteLaws.{wrote_more, wrote_length, wrote_byte, wrote_before, wrote_as, wrote_none, wrote_both, fits_as}
+use Rattle.text.proofs.WroteLaws.{wrote_more, wrote_length, wrote_byte, wrote_before, wrote_as, wrote_both, fits_as}
 use Rattle.text.proofs.WroteLaws.{room_first, room_second}
 
 -- a level after what parts it from the number before
@@ -58,10 +58,6 @@ pub record RestWriting (rest : List ℕ) (start at : ℕ) (buffer : List ℕ) (e
   pub wrote : Wrote text at buffer out end
   pub whole : text ++ level_row column (drop i rest) ≡ level_row start rest
   pub bounded : column ≤ end
-
-pub rest_start : (rest : List ℕ) (start at : ℕ) (buffer : List ℕ) → start ≤ at
-    → RestWriting rest start at buffer at start 0 buffer
-rest_start rest start at buffer b = record { text = []; wrote = wrote_none at buffer; whole = refl; bounded = b }
 
 module _ {rest : List ℕ} {start at : ℕ} {buffer : List ℕ} {end column i : ℕ} {out : List ℕ}
     (h : RestWriting rest start at buffer end column i out) (fits : at + length (level_row start rest) ≤ length buffer) where

@@ -3,7 +3,7 @@
 
 pub mod finished;
 
-ghost use Rattle.std.specs.Prelude.{◌≡◌, ◌∷◌, [], ◌++◌, ◌+◌, ◌-◌, ◌*◌, ◌<◌, ◌≤◌, length};
+ghost use Rattle.std.specs.Prelude.{◌≡◌, ◌∷◌, ◌+◌, ◌*◌, ◌<◌, ◌≤◌, length};
 ghost use Rattle.decimal.specs.Numbers.{digits};
 ghost use Rattle.pgm.specs.PgmText.{stays, parting, column_after, level_row, frame_row, levels_text};
 ghost use Rattle.text.specs.Writing.{begun, Wrote};
@@ -98,13 +98,13 @@ fn write_row(row: &[u16], out: &mut [u8], at: usize) -> usize
 }
 
 // Writes the frame rows one after the other.
-fn write_levels(width: usize, height: usize, levels: &[u16], out: &mut [u8], at: usize) -> usize
-    requires { (0 < width) ×
-        ((length levels.now ≡ height * width) × (at + length (levels_text width height levels.now) ≤ length out.old)) }
-    ensures { Wrote (levels_text width height levels.now) at out.old out.new result }
+fn write_levels(header: Header, levels: &[u16], out: &mut [u8], at: usize) -> usize
+    requires { (0 < header.width) × ((length levels.now ≡ header.height * header.width) ×
+        (at + length (levels_text header.width header.height levels.now) ≤ length out.old)) }
+    ensures { Wrote (levels_text header.width header.height levels.now) at out.old out.new result }
 {
     let mut end = at;
-    for row in levels.chunks_exact(width) {
+    for row in levels.chunks_exact(header.width) {
         end = write_row(row, out, end);
     }
     end
@@ -124,6 +124,7 @@ pub fn write_header(magic: &[u8], header: Header, out: &mut [u8], at: usize) -> 
 }
 
 // The length of a header whose magic number has two bytes.
+#[tactic(auto, using(crate::proofs::SizeLaws::header_size, crate::proofs::SizeLaws::header_bound))]
 pub fn header_length(magic: &[u8], header: Header) -> usize
     requires { (length magic.now ≡ 2) × SmallHeader header }
     ensures { result ≡ length (header_text magic.now header) }
@@ -156,11 +157,12 @@ pub fn pgm_length(header: Header, levels: &[u16]) -> usize
 }
 
 // Writes the text at the front of `out`, which has room for it, and gives its length.
+#[tactic(auto, unfolding(crate::specs::PgmText::pgm_text))]
 pub fn write_pgm_text(header: Header, levels: &[u16], out: &mut [u8]) -> usize
     requires { IsPicture header levels.now × (length (picture_text header levels.now) ≤ length out.old) }
     ensures { (result ≡ length (picture_text header levels.now)) ×
         (out.new ≡ begun (picture_text header levels.now) out.old) }
 {
     let start = write_header(b"P2", header, out, 0);
-    write_levels(header.width, header.height, levels, out, start)
+    write_levels(header, levels, out, start)
 }

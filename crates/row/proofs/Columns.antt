@@ -9,10 +9,8 @@ use mathlib.Core.Logic.{◌⊎◌, inl, inr}
 use mathlib.Core.List.{List}
 use mathlib.Core.Path.{◌≡◌, sym, ap}
 use lib.ListN.{length, get_or}
-use borrow.Author.Rules.{rules}
 use borrow.Author.Tests.{lt-ltb, le-ltb, le-leb, lt-leb}
 use borrow.Rule.Slice.PartMut.{mid_of, put_mid}
-use Rattle.std.proofs.lemmas.List.{places}
 use Rattle.row.specs.RowRule.{more, within}
 use Rattle.row.specs.Passes.{Pass, column_at}
 use Rattle.row.proofs.Pass.{pass_as, pass_join, pass_part}
@@ -95,12 +93,9 @@ module _ (worked partners : List ℕ) (across beyond left right : ℕ) (same : l
   abbrev n : ℕ
   n = length worked - right - left
 
-  partner_in : (j : ℕ) → j < n → get_or (mid_of right (length worked - left - right) partners) j 0 ≡ get_or partners (0 + right + j) 0
-  partner_in j h = search (rules, places)
-
   pub by_slices : (one two three : List ℕ) → Pass 0 (length (mid_of 0 left worked)) (λ j. more beyond) (mid_of 0 left worked) one →
       (first : List ℕ) → first ≡ put_mid 0 left worked one →
-      Pass 0 (length (mid_of left n first)) (λ j. more (get_or (mid_of right (length worked - left - right) partners) j 0))
+      Pass 0 (length (mid_of left n first)) (λ j. more (get_or partners (right + j) 0))
       (mid_of left n first) two →
       (second : List ℕ) → second ≡ put_mid left n first two →
       (k : ℕ) → k ≡ length second - (length worked - right) →
@@ -109,12 +104,12 @@ module _ (worked partners : List ℕ) (across beyond left right : ℕ) (same : l
       (put_mid (length worked - right) k second three)
   by_slices one two three P first f Q second s k e R =
       let A : Pass 0 left (λ j. more beyond) worked first = rw f (pass_part 0 left _ worked one (omega arith) P) in
-      let B : Pass left n (λ j. more (get_or (mid_of right (length worked - left - right) partners) j 0)) first second =
+      let B : Pass left n (λ j. more (get_or partners (right + j) 0)) first second =
       rw s (pass_part left n _ first two (omega (arith, A.size)) Q) in
       let C : Pass (length worked - right) k (λ j. more beyond) second (put_mid (length worked - right) k second three) =
       pass_part (length worked - right) k _ second three (omega (arith, A.size, B.size)) R in
       by_stretches (length worked) 0 beyond across partners worked left right n first second _ l r (omega arith) A
-      (pass_as left n first _ _ second (λ j h. ap more (partner_in j h)) B)
+      (rw zero-add B)
       (moved (omega arith) (omega (arith, A.size, B.size)) C)
     where
       moved : {at at' m m' : ℕ} {levels after : List ℕ} → at ≡ at' → m ≡ m' → Pass at m (λ j. more beyond) levels after

@@ -1,5 +1,5 @@
 -- The laws of putting levels and of lowering them, over a stretch: it grows by one level, two passes that follow one another join,
--- and two over the same stretch make one.
+-- two over the same stretch make one, and one over a part that was lent is one over the whole.
 -- Each is shown level by level.
 use Prim.Native.Nat.{ℕ, ◌+◌, ◌-◌, ◌≤◌, ◌<◌, min}
 use native.Mathlib.Nat.{zero-add}
@@ -9,14 +9,14 @@ use mathlib.Core.Logic.{◌⊎◌, inl, inr, ⊎_elim}
 use mathlib.Core.List.{List}
 use mathlib.Core.Path.{◌≡◌, refl, sym, ap, ◌∙◌}
 use lib.Dec.{ltb}
-use lib.ListN.{length, get_or, set, length-set}
+use lib.ListN.{length, get_or, set, length-set, get_or-eq_default}
 use lib.Seq.{get_or-set_same, get_or-set_other, ext_get_or}
 use borrow.Author.Rules.{rules}
 use borrow.Rule.Slice.PartMut.{mid_of, put_mid}
 use borrow.Author.Tests.{ltb-true, ltb-false}
 use Rattle.std.proofs.lemmas.List.{places}
 use Rattle.row.specs.RowRule.{none, more}
-use Rattle.row.specs.Passes.{Put, Pass}
+use Rattle.row.specs.Passes.{Lowers, Put, Pass}
 
 -- an order is decided
 ordered_by : (t : Bool) (a b : ℕ) → ltb a b ≡ t → (a < b) ⊎ (b ≤ a)
@@ -60,10 +60,6 @@ module _ (start : ℕ) (f : ℕ → ℕ) (levels : List ℕ) where
         later = λ i h. other i (λ q. omega arith) ∙ P.later i (omega arith);
       }
 
-  -- and all its turns
-  pub put_end : (n i : ℕ) (after : List ℕ) → i ≤ n → n ≤ i → Put start i f levels after → Put start n f levels after
-  put_end n i after a b P = let q : n ≡ i = omega arith in rw q P
-
 -- where every level is put, the levels are those
 pub put_all : (levels worked after : List ℕ) (i : ℕ) → length worked ≡ length levels → length levels ≤ i
     → Put 0 i (λ col. get_or worked col 0) levels after → after ≡ worked
@@ -100,14 +96,6 @@ pass_part at n f levels part room P =
 
     mid_in : (col : ℕ) → col < n → get_or (mid_of at n levels) col 0 ≡ get_or levels (at + col) 0
     mid_in col h = search (rules, places)
-
--- a turn that lowers a level: it stood as at entry
-pub pass_turn : (start : ℕ) (f : ℕ → ℕ) (levels : List ℕ) (n : ℕ) (after stored : List ℕ) → start + n < length levels
-    → stored ≡ set after (start + n) (min (get_or after (start + n) 0) (f n)) →
-    Pass start n f levels after → Pass start (n + 1) f levels stored
-pass_turn start f levels n after stored room is P =
-    put_turn start _ levels n after stored room
-    (is ∙ ap (λ (x : ℕ). set after (start + n) (min x (f n))) (P.later (start + n) (omega arith))) P
 
 pub pass_join : (start : ℕ) (f : ℕ → ℕ) (levels : List ℕ) (m n : ℕ) (between after : List ℕ) → Pass start m f levels between
     → Pass (start + m) n (λ j. f (m + j)) between after → Pass start (m + n) f levels after
@@ -153,3 +141,15 @@ module _ (start width : ℕ) (levels : List ℕ) where
     earlier = λ i h. refl;
     later = λ i h. refl;
   }
+
+-- levels that are lowered by what is offered have had a pass
+pub pass_offered : (offers : ℕ → ℕ → Type 0) (f : ℕ → ℕ) (levels after : List ℕ) → length after ≡ length levels
+    → ((i level : ℕ) → i < length levels → offers i level → level ≡ f i) → Lowers offers levels after
+    → Pass 0 (length levels) (λ i. more (f i)) levels after
+pass_offered offers f levels after size is L = record {
+  size = size;
+  inside = λ i h. let low = L i h in
+      rw zero-add (low.2 ∙ ap (λ (x : ℕ). min (get_or levels i 0) (more x)) (is i low.0 h low.1));
+  earlier = λ i h. absurd (omega arith);
+  later = λ i h. get_or-eq_default after 0 (omega arith) ∙ sym (get_or-eq_default levels 0 (omega arith));
+}

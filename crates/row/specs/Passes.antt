@@ -13,6 +13,11 @@ pub record Put (start width : ℕ) (level : ℕ → ℕ) (levels after : List �
 abbrev pub Pass : ℕ → ℕ → (ℕ → ℕ) → List ℕ → List ℕ → Type 0
 Pass start width offer levels after = Put start width (λ col. min (get_or levels (start + col) 0) (offer col)) levels after
 
+-- each level is lowered to one more than what is offered at its index
+abbrev pub Lowers : (ℕ → ℕ → Type 0) → List ℕ → List ℕ → Type 0
+Lowers offers levels after =
+    (i : ℕ) → i < length levels → (level : ℕ) × offers i level × (get_or after i 0 ≡ min (get_or levels i 0) (more level))
+
 -- what a partner reads in the row that begins at from, at a column that is counted from 3 before the first
 unfoldable pub column_at : ℕ → ℕ → ℕ → List ℕ → ℕ → ℕ
 column_at width from beyond levels x = cond (within width x) (get_or levels (from + (x - 3)) 0) beyond

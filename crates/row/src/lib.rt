@@ -2,10 +2,10 @@
 // then by the own row, column by column. Then it is stored, and the levels that fell are counted.
 #![tactic(auto)]
 
-ghost use Rattle.std.specs.Prelude.{◌≡◌, ◌≢◌, true, false, ◌+◌, ◌*◌, ◌<◌, ◌≤◌, min, length, get_or, set};
+ghost use Rattle.std.specs.Prelude.{◌≡◌, ◌≢◌, ℕ, true, false, ◌+◌, ◌*◌, ◌<◌, ◌≤◌, min, length, get_or, set};
 ghost use Rattle.basics.specs.Limits.{longest_side};
 ghost use Rattle.row.specs.RowRule.{none, more, place, least, row_rule, points_lowered};
-ghost use Rattle.row.specs.Passes.{Pass, column_at, first_other, leads_back, step, Lowest, TwoLowest, own_columns};
+ghost use Rattle.row.specs.Passes.{Lowers, Pass, column_at, first_other, leads_back, step, Lowest, TwoLowest, own_columns};
 
 // The level that means "nothing found yet".
 pub const NONE: u16 = u16::MAX;
@@ -20,34 +20,19 @@ pub struct Area {
     pub cells: [[u8; 7]; 7],
 }
 
-// The level at `at`, lowered to one more than `level`.
-fn lower(worked: &mut [u16], at: usize, level: u16)
-    requires { at < length worked.old }
-    ensures { worked.new ≡ set worked.old at (min (get_or worked.old at 0) (more level)) }
+// Each level, lowered to one more than what is offered to it.
+fn lower_each<F: Fn(usize) -> u16>(levels: &mut [u16], offer: F)
+    requires { (i : ℕ) → i < length levels.old → F.pre offer i }
+    ensures { Lowers (F.post offer) levels.old levels.new }
 {
-    worked[at] = worked[at].min(level.saturating_add(1));
-}
-
-// Each level, lowered to one more than its partner.
-fn lower_from(worked: &mut [u16], partners: &[u16])
-    requires { length partners.now ≡ length worked.old }
-    ensures { Pass 0 (length worked.old) (λ i. more (get_or partners.now i 0)) worked.old worked.new }
-{
-    for i in 0..worked.len() {
-        lower(worked, i, partners[i]);
+    for i in 0..levels.len() {
+        levels[i] = levels[i].min(offer(i).saturating_add(1));
     }
 }
 
-// Each level, lowered to one more than `level`.
-fn lower_to(worked: &mut [u16], level: u16)
-    ensures { Pass 0 (length worked.old) (λ i. more level) worked.old worked.new }
-{
-    for i in 0..worked.len() {
-        lower(worked, i, level);
-    }
-}
-
-// The row, by the partners in the row that a cell leads to, `across` columns on from 3 before.
+// The row, by the partners in the row that a cell leads to, `across` columns on from 3 before. It is not inlined, so that nothing of
+// it is worked out for the cells that are not set.
+#[inline(never)]
 fn by_columns(worked: &mut [u16], partners: &[u16], across: usize, beyond: u16)
     requires { length partners.now ≡ length worked.old }
     ensures { Pass 0 (length worked.old) (λ col. more (column_at (length worked.old) 0 beyond partners.now (col + across)))
@@ -58,9 +43,9 @@ fn by_columns(worked: &mut [u16], partners: &[u16], across: usize, beyond: u16)
     let left = 3usize.saturating_sub(across).min(width);
     let right = across.saturating_sub(3).min(width);
     let end = width - right;
-    lower_to(&mut worked[..left], beyond);
-    lower_from(&mut worked[left..end], &partners[right..width - left]);
-    lower_to(&mut worked[end..], beyond);
+    lower_each(&mut worked[..left], |_| beyond);
+    lower_each(&mut worked[left..end], |i| partners[right + i]);
+    lower_each(&mut worked[end..], |_| beyond);
 }
 
 // The row, by the partners that cell `k`, in another row of the element, leads to.
@@ -77,7 +62,7 @@ fn by_cell(worked: &mut [u16], part: &[u16], area: &Area, row: usize, k: usize)
         let from = (met - 3) * area.width;
         by_columns(worked, &part[from..from + area.width], k % 7, area.beyond);
     } else {
-        lower_to(worked, area.beyond);
+        lower_each(worked, |_| area.beyond);
     }
 }
 
@@ -94,6 +79,7 @@ fn by_other_rows(worked: &mut [u16], part: &[u16], area: &Area, row: usize, upwa
 }
 
 // The column worked at turn `t`.
+#[tactic(auto, unfolding(crate::specs::RowRule::place))]
 fn column(upward: bool, width: usize, t: usize) -> usize
     requires { t < width }
     ensures { result ≡ place upward width t }
@@ -102,6 +88,7 @@ fn column(upward: bool, width: usize, t: usize) -> usize
 }
 
 // Whether the cell that leads to the column worked `d` turns ago is set.
+#[tactic(auto, unfolding(crate::specs::RowRule::cell_number, crate::specs::Passes::cell_back, crate::specs::Passes::leads_back))]
 fn leads_back(cells: &[[u8; 7]; 7], upward: bool, d: usize) -> bool
     requires { (1 ≤ d) × (d ≤ 3) }
     ensures { result ≡ leads_back cells.now upward d }
@@ -111,6 +98,7 @@ fn leads_back(cells: &[[u8; 7]; 7], upward: bool, d: usize) -> bool
 }
 
 // What a cell of the own row adds to its partner's level: 1, or, where it is not set, so much that nothing is lowered.
+#[tactic(auto, unfolding(crate::specs::Passes::step))]
 fn step_of(set: bool) -> u32
     ensures { (result ≡ step set) × (result ≤ none) }
 {

@@ -6,11 +6,10 @@ ghost use Rattle.basics.specs.Tables.{table};
 ghost use Rattle.element.specs.Elements.{is_side, element_refusals};
 ghost use Rattle.sheet.specs.Sheets.{pixel, row_bytes, sheet_refusals};
 ghost use Rattle.run.specs.Records.{margin, canvas_side, empty_record};
-ghost use Rattle.run.specs.Starting.{start_record, start_level, start_area, start_levels, begun, erosion_refusals, StartsErosion};
+ghost use Rattle.run.specs.Starting.{fresh_record, start_level, start_area, start_levels, begun, erosion_refusals, StartsErosion};
 ghost use Rattle.run.specs.Starting.{canvas_refusals, dilation_refusals, StartsDilation, StartsCropped};
 ghost use Rattle.run.specs.Patches.{Canvas};
 
-use super::kinds::Kind;
 use super::records::Frame;
 use super::{Input, Record, kinds, records};
 use basics::Refusal;
@@ -156,24 +155,19 @@ pub fn check_dilation(
 }
 
 // The record of an accepted start, with no rows done.
-fn start_record(kind: Kind, input: Input, cap: usize, bytes: &[u8]) -> Record
+fn fresh_record(kind: u8, edge: u8, input: Input, cap: usize, bytes: &[u8]) -> Record
     requires { (is_side input.side ≡ true) × (length bytes.now ≡ input.side * input.side) }
-    ensures { result ≡ start_record kind input.width input.height cap input.side bytes.now }
+    ensures { result ≡ fresh_record kind edge input.width input.height cap input.side bytes.now }
 {
     Record {
-        kind: kinds::by_kind(kind, kinds::EROSION, kinds::DILATION, kinds::EROSION),
+        kind,
         width: input.width,
         height: input.height,
         cap,
         side: input.side,
         rows: 0,
         cells: element::flat_cells(element::cells_of(input.side, bytes)),
-        edge: kinds::by_kind(
-            kind,
-            kinds::BACKGROUND,
-            kinds::BACKGROUND,
-            kinds::FOREGROUND,
-        ),
+        edge,
     }
 }
 
@@ -188,14 +182,16 @@ pub fn start_erosion(
         (value_or empty_record result, levels.new) }
 {
     check_erosion(input, sheet, bytes, levels)?;
-    let run = start_record(Kind::Eroding, input, 0, bytes);
+    let run = fresh_record(kinds::EROSION, kinds::BACKGROUND, input, 0, bytes);
     fill_levels(run, sheet, levels);
     Ok(run)
 }
 
 // A start on the canvas of a cap: a dilation's, and a cropped sheet's. Refusals 2 to 10.
+// Kept: kind and edge rule as numbers, since it promises an answer for each of them.
 pub fn start_on_canvas(
-    kind: Kind,
+    kind: u8,
+    edge: u8,
     input: Input,
     sheet: &[u8],
     bytes: &[u8],
@@ -205,11 +201,11 @@ pub fn start_on_canvas(
     ensures { Answers
         (dilation_refusals input.width input.height sheet.now input.side bytes.now cap levels.old)
         (empty_record, levels.old)
-        (λ after. after ≡ begun (start_record kind input.width input.height cap input.side bytes.now) sheet.now)
+        (λ after. after ≡ begun (fresh_record kind edge input.width input.height cap input.side bytes.now) sheet.now)
         (number result) (value_or empty_record result, levels.new) }
 {
     check_dilation(input, sheet, bytes, cap, levels)?;
-    let run = start_record(kind, input, cap, bytes);
+    let run = fresh_record(kind, edge, input, cap, bytes);
     fill_levels(run, sheet, levels);
     Ok(run)
 }
@@ -226,7 +222,15 @@ pub fn start_dilation(
     ensures { StartsDilation input.width input.height sheet.now input.side bytes.now cap levels.old
         (number result) (value_or empty_record result, levels.new) }
 {
-    start_on_canvas(Kind::Dilating, input, sheet, bytes, cap, levels)
+    start_on_canvas(
+        kinds::DILATION,
+        kinds::BACKGROUND,
+        input,
+        sheet,
+        bytes,
+        cap,
+        levels,
+    )
 }
 
 // Public: starts the erosion of a cropped sheet, with foreground beyond the frame, its levels 1 on the frame's background and 65,535
@@ -241,5 +245,13 @@ pub fn start_cropped(
     ensures { StartsCropped input.width input.height sheet.now input.side bytes.now cap levels.old
         (number result) (value_or empty_record result, levels.new) }
 {
-    start_on_canvas(Kind::Cropping, input, sheet, bytes, cap, levels)
+    start_on_canvas(
+        kinds::EROSION,
+        kinds::FOREGROUND,
+        input,
+        sheet,
+        bytes,
+        cap,
+        levels,
+    )
 }

@@ -73,14 +73,8 @@ module _ (input : Input) (sheet bytes : List ℕ) (lent : Buffers) (z : first (s
   unfolding level
   is_level row col = (exists row col).1
 
-  -- the first run, finished, of a plan that asks for opening levels
-  pub opening_run : {plan : Plan} → plan ≡ opening → {run : Record} {levels : List ℕ}
-      → (run ≡ first_record input bytes plan) × (levels ≡ first_levels input sheet bytes plan)
-      → (run ≡ first_record input bytes opening) × (levels ≡ first_levels input sheet bytes opening)
-  opening_run e (p, q) = (p ∙ ap (first_record input bytes) e, q ∙ ap (first_levels input sheet bytes) e)
-
-  pub opening_starts : {plan : Plan} → plan ≡ opening → first (start_refusals input sheet bytes plan (length lent.first)) ≡ 0
-  opening_starts e = ap (λ p. first (start_refusals input sheet bytes p (length lent.first))) e ∙ fit.work.start
+  pub opening_starts : first (start_refusals input sheet bytes opening (length lent.first)) ≡ 0
+  opening_starts = fit.work.start
 
   module _ {run : Record} {levels : List ℕ}
       (p : (run ≡ first_record input bytes opening) × (levels ≡ first_levels input sheet bytes opening)) where

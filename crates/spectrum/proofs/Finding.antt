@@ -12,62 +12,54 @@ use native.Mathlib.Decide.{dec_lt}
 use Rattle.basics.specs.Limits.{largest_size}
 use Rattle.basics.specs.Sums.{sum, points_where}
 use Rattle.basics.proofs.SumLaws.{sum_same, sum_less, sum_const, points_same, points_none}
-use Rattle.basics.proofs.TableLaws.{Filling, filling_start, filling_turn, filling_end}
+use Rattle.basics.specs.Tables.{table}
+use Rattle.basics.proofs.TableLaws.{length-table, get_or-table, Filling, filling_start, filling_turn, filling_end}
 use Rattle.grid.specs.Points.{at}
 use Rattle.grid.proofs.LevelLaws.{opening_iff}
 use Rattle.run.specs.declared.Record.{Record}
-use Rattle.row.specs.RowRule.{none}
-use Rattle.run.specs.Records.{canvas_side}
+use Rattle.run.specs.declared.kinds.Bounds.{Bounds}
+use Rattle.run.specs.declared.records.Frame.{Frame}
+use Rattle.run.specs.Records.{frame_of}
 use Rattle.run.specs.Patches.{held_between, level_in}
 use Rattle.run.specs.Pictures.{frame_level}
 use Rattle.filters.specs.Filters.{foreground_of, element_of}
-use Rattle.filters.specs.Back.{is_found, Highest, Ready, IsHeldPart}
-use Rattle.filters.specs.declared.back.HeldPart.{HeldPart}
+use Rattle.filters.specs.Back.{is_found, Highest, Ready, HoldsAfter}
+use Rattle.run.proofs.LevelLaws.{held_binary}
 use Rattle.filters.specs.Plans.{FindsSize}
 use Rattle.filters.proofs.FirstRuns.{opening_small, opening_below}
 use Rattle.spectrum.specs.Counting.{opening, HasLevels, CountsAbove, FillsTable}
 use Rattle.spectrum.proofs.LevelCounts.{same_test, points_of, points_from, from_none, from_split, from_next}
 
 -- of a row no more than all levels are held
-pub one_at_most : (low high level : ℕ) → held_between low high level ≤ 1
-unfolding held_between
-one_at_most low high level = go ((eqb high none || leb level high) && ltb low level)
-  where
-    go : (t : Bool) → cond t 1 0 ≤ 1
-    go true = omega arith
-    go false = omega arith
-
 pub row_most : (low high n : ℕ) (level : ℕ → ℕ) → sum n (λ i. held_between low high (level i)) ≤ n
 row_most low high n level =
-    let s = sum_less n (λ i. held_between low high (level i)) (λ _. 1) (λ i _. one_at_most low high (level i)) in
+    let s = sum_less n (λ i. held_between low high (level i)) (λ _. 1) (λ i _. held_binary low high (level i)) in
     let e = sum_const n 1 in
     omega arith
 
--- a row of the frame lies in the levels from its margin on
-pub row_counted : (width margin row low high : ℕ) (levels : List ℕ) {count : ℕ}
-    → count ≡ sum width (λ i. held_between low high (get_or levels ((row + margin) * canvas_side width margin + margin + i) 0))
-    → count ≡ sum width (λ col. held_between low high (level_in width margin levels row col))
-row_counted width margin row low high levels e =
-    e ∙ sum_same width (λ i. held_between low high (get_or levels ((row + margin) * canvas_side width margin + margin + i) 0))
-    (λ col. held_between low high (level_in width margin levels row col))
-    (λ i _. ap (λ k. held_between low high (get_or levels k 0))
-    (let q : (row + margin) * canvas_side width margin + margin + i ≡ (row + margin) * canvas_side width margin + (i + margin) =
-    omega arith in q))
+-- counted in a row's levels, which are so many of f
+pub row_counted : (low high : ℕ) (f : ℕ → ℕ) (n : ℕ) {row : List ℕ} {count : ℕ}
+    → count ≡ sum (length row) (λ i. held_between low high (get_or row i 0)) → row ≡ table n f
+    → count ≡ sum n (λ i. held_between low high (f i))
+row_counted low high f n e r =
+    (rw (r, length-table f n) at e)
+    ∙ sum_same n (λ i. held_between low high (get_or (table n f) i 0)) (λ i. held_between low high (f i))
+    (λ i l. ap (held_between low high) (get_or-table f n i 0 l))
 
 -- counted between the bounds of what is held after the way back
-pub found_counted : (r : Record) (n : ℕ) (second : List ℕ) {part : HeldPart} → IsHeldPart r n part → {count : ℕ}
-    → count ≡ sum r.height (λ row. sum r.width
-    (λ col. held_between part.low part.high (level_in r.width part.margin second row col)))
+pub found_counted : (r : Record) (n : ℕ) (second : List ℕ) {frame : Frame} → frame ≡ frame_of r → (bounds : Bounds)
+    → HoldsAfter r n bounds → {count : ℕ}
+    → count ≡ sum frame.height (λ row. sum frame.width
+    (λ col. held_between bounds.low bounds.high (level_in frame.width frame.margin second row col)))
     → count ≡ points_where r.width r.height (is_found r second n)
 unfolding points_where
-found_counted r n second {part} p e =
-    e ∙ ap (λ m. sum r.height (λ row. sum r.width
-    (λ col. held_between part.low part.high (level_in r.width m second row col)))) p.margin_is
+found_counted r n second q bounds p e =
+    (rw q at e)
     ∙ sum_same r.height
-    (λ row. sum r.width (λ col. held_between part.low part.high (frame_level r second row col)))
+    (λ row. sum r.width (λ col. held_between bounds.low bounds.high (frame_level r second row col)))
     (λ row. sum r.width (λ col. cond (is_found r second n row col) 1 0))
-    (λ row _. sum_same r.width (λ col. held_between part.low part.high (frame_level r second row col))
-    (λ col. cond (is_found r second n row col) 1 0) (λ col _. p.held (frame_level r second row col)))
+    (λ row _. sum_same r.width (λ col. held_between bounds.low bounds.high (frame_level r second row col))
+    (λ col. cond (is_found r second n row col) 1 0) (λ col _. p (frame_level r second row col)))
 
 module _ {r : Record} {first : List ℕ} where
   -- a size that finds something

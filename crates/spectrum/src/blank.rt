@@ -11,10 +11,8 @@ fn any_in_row(width: usize, sheet: &[u8], row: usize) -> bool
     ensures { result ≡ ltb 0 (sum width (λ col. cond (eqb (pixel width sheet.now row col) 1) 1 0)) }
 {
     let mut found = false;
-    let mut col = 0;
-    while col < width {
-        found = found | (sheet::pixel_at(width, sheet, row, col) == 1);
-        col += 1;
+    for col in 0..width {
+        found |= sheet::pixel_at(width, sheet, row, col) == 1;
     }
     found
 }
@@ -24,12 +22,10 @@ pub fn is_blank(width: usize, height: usize, sheet: &[u8]) -> bool
     requires { (width ≤ longest_side) × ((height ≤ longest_side) × (length sheet.now ≡ height * row_bytes width)) }
     ensures { result ≡ is_blank width height sheet.now }
 {
-    let mut row = 0;
-    while row < height {
+    for row in 0..height {
         if any_in_row(width, sheet, row) {
             return false;
         }
-        row += 1;
     }
     true
 }

@@ -1,5 +1,5 @@
 // Counting the points of each level: those that one size holds and the next does not.
-ghost use Rattle.std.specs.Prelude.{◌≡◌, false, ◌+◌, ◌*◌, ◌≤◌, length, get_or};
+ghost use Rattle.std.specs.Prelude.{◌≡◌, false, ◌*◌, ◌≤◌, length, get_or};
 ghost use Rattle.basics.specs.Limits.{longest_side, largest_size};
 ghost use Rattle.basics.specs.Sums.{sum, points_where};
 ghost use Rattle.run.specs.Records.{area_width, area_height, foreign};
@@ -8,39 +8,30 @@ ghost use Rattle.filters.specs.Back.{is_found, Highest, Ready};
 ghost use Rattle.spectrum.specs.Counting.{HasLevels, CountsAbove, FillsTable};
 
 use run::Record;
+use run::kinds::Bounds;
+use run::records::Frame;
 
-// How many of the `n` levels from `from` on are above `low` and at most `high`.
-fn count_row(levels: &[u16], from: usize, n: usize, low: u16, high: u16) -> usize
-    requires { (from + n ≤ length levels.now) × (n ≤ longest_side) }
-    ensures { result ≡ sum n (λ i. held_between low high (get_or levels.now (from + i) 0)) }
+// How many of the levels are held, counted in 16 bits, of which a processor adds more at a time.
+fn count_row(levels: &[u16], bounds: Bounds) -> usize
+    requires { length levels.now ≤ longest_side }
+    ensures { result ≡ sum (length levels.now) (λ i. held_between bounds.low bounds.high (get_or levels.now i 0)) }
 {
     let mut count = 0u16;
-    let mut i = 0;
-    while i < n {
-        count += run::pictures::held(levels[from + i], low, high) as u16;
-        i += 1;
+    for &level in levels {
+        count += u16::from(bounds.hold(level));
     }
-    count as usize
+    usize::from(count)
 }
 
 // The same in all rows of the frame's part of the levels.
-fn count_rows(
-    levels: &[u16],
-    width: usize,
-    height: usize,
-    margin: usize,
-    low: u16,
-    high: u16,
-) -> usize
-    requires { Canvas width height margin levels.now }
-    ensures { result ≡ sum height (λ row. sum width (λ col. held_between low high (level_in width margin levels.now row col))) }
+fn count_frame(levels: &[u16], frame: Frame, bounds: Bounds) -> usize
+    requires { Canvas frame.width frame.height frame.margin levels.now }
+    ensures { result ≡ sum frame.height (λ row. sum frame.width
+        (λ col. held_between bounds.low bounds.high (level_in frame.width frame.margin levels.now row col))) }
 {
-    let side = width + (margin + margin);
     let mut count = 0;
-    let mut row = 0;
-    while row < height {
-        count += count_row(levels, (row + margin) * side + margin, width, low, high);
-        row += 1;
+    for row in 0..frame.height {
+        count += count_row(frame.row(levels, row), bounds);
     }
     count
 }
@@ -50,15 +41,8 @@ fn count_found(run: Record, size: usize, second: &[u16]) -> usize
     requires { (foreign run ≡ false) × ((length second.now ≡ area_height run * area_width run) × (size ≤ largest_size)) }
     ensures { result ≡ points_where run.width run.height (is_found run second.now size) }
 {
-    let part = filters::back::held_part(run, size);
-    count_rows(
-        second,
-        run.width,
-        run.height,
-        part.margin,
-        part.low,
-        part.high,
-    )
+    let bounds = filters::back::back_bounds(run, size);
+    count_frame(second, run::records::frame_of(run), bounds)
 }
 
 // How many points have a level above the size. None has one above `most`, the highest level of the first run.
@@ -79,13 +63,11 @@ pub fn fill_table(run: Record, first: &[u16], second: &mut [u16], table: &mut [u
     ensures { (length second.new ≡ length second.old) ×
         FillsTable run first.now (length table.old) table.new }
 {
-    let most = filters::levels::highest(first) as usize;
+    let most = usize::from(filters::levels::highest(first));
     let mut points = run.height * run.width;
-    let mut n = 0;
-    while n < table.len() {
+    for n in 0..table.len() {
         let above = points_above(run, n, most, first, second);
         table[n] = (points - above) as u64;
         points = above;
-        n += 1;
     }
 }

@@ -10,13 +10,7 @@ fn foreground_points(table: &[u64]) -> u64
     requires { IsTable table.now }
     ensures { result ≡ foreground_points table.now }
 {
-    let mut points = 0;
-    let mut n = 1;
-    while n < table.len() {
-        points += table[n];
-        n += 1;
-    }
-    points
+    table[1..].iter().sum()
 }
 
 // The levels of all points, added up.
@@ -25,10 +19,8 @@ fn levels_added(table: &[u64]) -> u64
     ensures { result ≡ levels_added table.now }
 {
     let mut added = 0;
-    let mut n = 0;
-    while n < table.len() {
+    for n in 0..table.len() {
         added += n as u64 * table[n];
-        n += 1;
     }
     added
 }

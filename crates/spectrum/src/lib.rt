@@ -5,13 +5,13 @@ mod blank;
 mod counting;
 mod fractions;
 
-ghost use Rattle.std.specs.Prelude.{◌≡◌, max};
-ghost use Rattle.basics.specs.Refusals.{first};
+ghost use Rattle.std.specs.Prelude.{◌≡◌};
+ghost use Rattle.basics.specs.Refusals.{first, number, value_or};
 ghost use Rattle.spectrum.specs.Spectrum.{refusals_by, no_summary, GivesSpectrum};
-ghost use Rattle.spectrum.specs.Counting.{opening};
 
-use filters::Input;
-use filters::judging::Plan;
+use basics::Refusal;
+use filters::judging::{self, Plan};
+use filters::{Input, answering};
 
 // The mean opening level over the foreground, and the share of the foreground at level 1.
 #[derive(Clone, Copy)]
@@ -20,64 +20,25 @@ pub struct Summary {
     pub share: f64,
 }
 
-// What the call answers: the refusal number, 0 where it is accepted, and the summary, zero beside a refusal.
-#[derive(Clone, Copy)]
-pub struct Answer {
-    pub refusal: u32,
-    pub summary: Summary,
-}
-
-fn larger(a: usize, b: usize) -> usize
-    ensures { result ≡ max a b }
-{
-    if a < b { b } else { a }
-}
-
-// Opening levels are asked for.
-fn opening_plan() -> Plan
-    ensures { result ≡ opening }
-{
-    Plan {
-        closing: false,
-        size: 0,
-        packed: false,
-    }
-}
-
-// Refusals 2 to 7, 10, 11 and 14 with buffers of these lengths, or 0.
-pub fn spectrum_refusal(
+// Refusals 2 to 7, 10, 11 and 14 with buffers of these lengths.
+pub fn check_spectrum(
     input: Input,
     sheet: &[u8],
     bytes: &[u8],
     one: usize,
     two: usize,
     entries: usize,
-) -> u32
-    ensures { result ≡ first (refusals_by input sheet.now bytes.now one two entries) }
+) -> Result<(), Refusal>
+    ensures { number result ≡ first (refusals_by input sheet.now bytes.now one two entries) }
 {
-    let plan = opening_plan();
-    let refusal = filters::judging::work_refusal(input, sheet, bytes, plan, one, two);
-    if refusal != 0 {
-        return refusal;
-    }
-    if entries != larger(input.width, input.height) + 1 {
-        return 11;
+    judging::check_work(input, sheet, bytes, Plan::OPENING_LEVELS, one, two)?;
+    if entries != input.width.max(input.height) + 1 {
+        return Err(Refusal::OutputLength);
     }
     if blank::is_blank(input.width, input.height, sheet) {
-        return 14;
+        return Err(Refusal::BlankSheet);
     }
-    0
-}
-
-// The answer to a refused call.
-fn refused(refusal: u32) -> Answer
-    ensures { (result.refusal ≡ refusal) × (result.summary ≡ no_summary) }
-{
-    let summary = Summary {
-        mean: 0.0,
-        share: 0.0,
-    };
-    Answer { refusal, summary }
+    Ok(())
 }
 
 // Public: fills `table` with how many points have each opening level, from 0, the background, to the larger side; the work buffers
@@ -89,20 +50,15 @@ pub fn spectrum(
     first: &mut [u16],
     second: &mut [u16],
     table: &mut [u64],
-) -> Answer
+) -> Result<Summary, Refusal>
     ensures { GivesSpectrum input sheet.now bytes.now
-        (record { first = first.entry.now; second = second.old; out = table.old }) result.refusal
-        (record { first = first.exit.now; second = second.new; out = table.new }, result.summary) }
+        (record { first = first.old; second = second.old; out = table.old }) (number result)
+        (record { first = first.new; second = second.new; out = table.new }, value_or no_summary result) }
 {
-    let refusal = spectrum_refusal(input, sheet, bytes, first.len(), second.len(), table.len());
-    if refusal != 0 {
-        return refused(refusal);
-    }
-    let run = filters::answering::first_run(input, sheet, bytes, opening_plan(), first);
+    check_spectrum(input, sheet, bytes, first.len(), second.len(), table.len())?;
+    let run = answering::first_run(input, sheet, bytes, Plan::OPENING_LEVELS, first);
     counting::fill_table(run, first, second, table);
-    filters::back::clear_both(first, second);
-    Answer {
-        refusal: 0,
-        summary: fractions::summary_of(table),
-    }
+    first.fill(0);
+    second.fill(0);
+    Ok(fractions::summary_of(table))
 }

@@ -7,5 +7,4 @@ pub returns : goal.returns
 returns c =
     let args = c.args in
     let lent : Buffers = record { first = args.first.now; second = args.second.now; out = args.out.now } in
-    open_answered args.input args.sheet.now args.bytes.now args.size lent
-    c.answer_sheet.ensures
+    open_answered args.input args.sheet.now args.bytes.now args.size lent c.answer_sheet.ensures

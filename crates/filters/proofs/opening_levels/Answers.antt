@@ -7,5 +7,4 @@ pub returns : goal.returns
 returns c =
     let args = c.args in
     let lent : Buffers = record { first = args.first.now; second = args.second.now; out = args.out.now } in
-    opening_answered args.input args.sheet.now args.bytes.now lent
-    c.answer_levels.ensures
+    opening_answered args.input args.sheet.now args.bytes.now lent c.answer_levels.ensures

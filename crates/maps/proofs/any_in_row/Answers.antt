@@ -7,15 +7,6 @@ use mathlib.Core.Path.{◌≡◌, refl, sym, ap, ◌∙◌}
 use mathlib.Core.Bool.{Bool, true, false, ◌||◌}
 use Rattle.maps.proofs.any_in_row.Goals as goal
 
-pub loop-col-init : goal.loop-col-init
-loop-col-init c =
-    let args = c.args in
-    let e : args.row * args.input.width + 0 ≡ args.row * args.input.width = omega arith in
-    (omega arith, ap (above_from args.cap (sizes_seen args.input args.sheet.now args.map.now)) e)
-
-pub is_above-found-requires : goal.is_above-found-requires
-is_above-found-requires c = let pre = c.requires in (pre.0, (pre.1, c.loop-col-test.true))
-
 or_assoc : (a b c : Bool) → (a || b) || c ≡ a || (b || c)
 or_assoc true b c = refl
 or_assoc false b c = refl
@@ -25,19 +16,15 @@ loop-col-preserved c =
     let args = c.args in
     let loop = c.loop-col in
     let rest = above_from args.cap (sizes_seen args.input args.sheet.now args.map.now)
-    (args.row * args.input.width + (loop.col + 1)) in (
-      omega arith,
-      or_assoc loop.found c.is_above-found.result rest
-          ∙ ap (λ t. loop.found || t) (ap (λ t. t || rest) c.is_above-found.ensures
-          ∙ sym (left_here args.input args.sheet.now args.map.now args.cap args.row loop.col c.requires.1
-          c.loop-col-test.true))
-          ∙ loop.invariant.1,
-    )
+    (args.row * args.input.width + (loop.col + 1)) in
+    or_assoc loop.found c.is_above-found.result rest
+    ∙ ap (λ t. loop.found || t) (ap (λ t. t || rest) c.is_above-found.ensures
+    ∙ sym (left_here args.input args.sheet.now args.map.now args.cap args.row loop.col c.requires.1 c.loop-col-test.true))
+    ∙ loop.invariant
 
 pub returns : goal.returns
 returns c =
     let args = c.args in
     let loop = c.loop-col in
-    let e : args.row * args.input.width + args.input.width ≡ args.row * args.input.width + loop.col =
-    let l = loop.invariant.0 in let t = c.loop-col-test.false in omega arith in
-    ap (λ k. loop.found || above_from args.cap (sizes_seen args.input args.sheet.now args.map.now) k) e ∙ loop.invariant.1
+    let e : args.row * args.input.width + args.input.width ≡ args.row * args.input.width + loop.col = omega arith in
+    ap (λ k. loop.found || above_from args.cap (sizes_seen args.input args.sheet.now args.map.now) k) e ∙ loop.invariant

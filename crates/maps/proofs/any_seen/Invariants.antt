@@ -2,13 +2,10 @@
 use Rattle.basics.specs.Bounds.{any_above}
 use Rattle.maps.specs.Maps.{sizes_seen}
 use Rattle.maps.specs.Raising.{above_from}
-use Prim.Native.Nat.{◌*◌, ◌-◌, ◌≤◌}
+use Prim.Native.Nat.{◌*◌}
 use mathlib.Core.Path.{◌≡◌}
 use Rattle.maps.proofs.any_seen.Given as goal
 
 abbrev pub invariant-loop-row : goal.invariant-loop-row
-invariant-loop-row l = (l.row ≤ l.height) ×
-    (above_from l.cap (sizes_seen l.input l.sheet l.map) (l.row * l.input.width) ≡ any_above l.cap (sizes_seen l.input l.sheet l.map))
-
-abbrev pub decreases-loop-row : goal.decreases-loop-row
-decreases-loop-row l = l.height - l.row
+invariant-loop-row l =
+    above_from l.cap (sizes_seen l.input l.sheet l.map) (l.row * l.input.width) ≡ any_above l.cap (sizes_seen l.input l.sheet l.map)

@@ -6,7 +6,6 @@ use Rattle.run.specs.declared.Input.{Input}
 use Rattle.sheet.specs.Sheets.{row_bytes}
 use Rattle.maps.specs.Raising.{Fits}
 use Rattle.maps.proofs.SeenLaws.{seen_above}
-use borrow.Author.Rules.{rules}
 use native.Mathlib.Omega.{arith}
 use Prim.Native.Nat.{ℕ, ◌+◌, ◌*◌, ◌<◌, ◌≤◌}
 use mathlib.Core.List.{List}
@@ -46,13 +45,8 @@ offset_bounds-map-place c = let l = in_map c.requires in omega arith
 pub bounds-map-place : goal.bounds-map-place
 bounds-map-place c = (in_map c.requires).0
 
-pub overflow_cast-result : goal.overflow_cast-result
-overflow_cast-result c =
-    let args = c.args in
-    let b = c.shared_slice_known-3-1.given (args.row * args.input.width + args.col) in search rules
-
 pub returns : goal.returns
 returns c =
     let args = c.args in
-    seen_above args.input args.sheet.now args.map.now args.cap args.row args.col c.pixel_at-pixel.result
-    c.requires.1.0 c.requires.1.1 c.pixel_at-pixel.ensures
+    rw c.from.ensures (seen_above args.input args.sheet.now args.map.now args.cap args.row args.col c.pixel_at-pixel.result
+    c.requires.1.0 c.requires.1.1 c.pixel_at-pixel.ensures)

@@ -1,11 +1,6 @@
--- The bytes before k are the packed sheet's, and the count of what is left of the row says which byte loses its padding.
+-- The rows so far are cleared, and those from here on are as they were copied.
 use Rattle.pbm.proofs.ClearingLaws.{Clearing}
-use Prim.Native.Nat.{◌-◌}
 use Rattle.pbm.proofs.copy_cleared.Given as goal
 
-abbrev pub invariant-loop-k : goal.invariant-loop-k
-invariant-loop-k l =
-    Clearing l.width l.height l.raster l.initial.out l.row l.count l.weight l.left l.k l.out
-
-abbrev pub decreases-loop-k : goal.decreases-loop-k
-decreases-loop-k l = l.count - l.k
+abbrev pub invariant-loop-row : goal.invariant-loop-row
+invariant-loop-row l = Clearing l.fn.frame.width l.fn.frame.height l.raster l.fn.out l.row l.out

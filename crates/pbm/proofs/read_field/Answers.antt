@@ -1,38 +1,25 @@
 -- White bytes that are none, digits that are none, or a number: the places are where the definition cuts.
+use Rattle.std.proofs.Common.{arith}
 use Rattle.pbm.proofs.HeaderLaws.{field_without_white, field_without_digits, field_found, field_lost, start_within}
-use native.Mathlib.Omega.{arith}
 use Rattle.pbm.proofs.read_field.Goals as goal
-
-pub returns-then-start-at : goal.returns-then-start-at
-returns-then-start-at c =
-    let args = c.args in
-    let skip_white = c.skip_white-start in
-    rw c.no_field.ensures (field_lost args.file.now args.at
-    (field_without_white args.file.now args.at skip_white.result skip_white.ensures c.if-start-at.true))
+use Rattle.pbm.proofs.read_field.Goals.{then-start-at-via-then-start-at, then-start-at-via-else-start-at+then-number-start}
 
 pub read_number-number-requires : goal.read_number-number-requires
-read_number-number-requires c =
-    let args = c.args in
-    let pre = c.requires in
-    let skip_white = c.skip_white-start in
-    (start_within args.file.now args.at skip_white.result skip_white.ensures pre, omega arith)
+read_number-number-requires c = (start_within c.args.file.now c.args.at _ c.skip_white-start.ensures c.requires, omega arith)
 
-pub returns-then-next-start : goal.returns-then-next-start
-returns-then-next-start c =
-    let args = c.args in
-    let skip_white = c.skip_white-start in
-    let read_number = c.read_number-number in
-    rw c.no_field-then-next-start.ensures (field_lost args.file.now args.at
-    (field_without_digits args.file.now args.at skip_white.result skip_white.ensures read_number.result.next
-    read_number.ensures.0 c.if-start-at.false c.if-next-start.true))
+pub returns-then-start-at : goal.returns-then-start-at
+returns-then-start-at c = elim c.then-start-at.branch [
+  | then-start-at-via-then-start-at w ↦
+      field_lost c.args.file.now c.args.at
+      (field_without_white c.args.file.now c.args.at _ c.skip_white-start.ensures w.if-start-at.true)
+  | then-start-at-via-else-start-at+then-number-start w ↦
+      field_lost c.args.file.now c.args.at
+      (field_without_digits c.args.file.now c.args.at _ c.skip_white-start.ensures _ c.read_number-number.ensures.0
+      w.if-start-at.false w.if-number-start.true)
+]
 
 pub returns : goal.returns
 returns c =
-    let args = c.args in
-    let pre = c.requires in
-    let skip_white = c.skip_white-start in
-    let read_number = c.read_number-number in
-    field_found args.file.now args.at skip_white.result skip_white.ensures read_number.result.next
-    read_number.ensures.0 read_number.result.value
-    (start_within args.file.now args.at skip_white.result skip_white.ensures pre) c.if-start-at.false
-    c.if-next-start.false read_number.ensures.1
+    field_found c.args.file.now c.args.at _ c.skip_white-start.ensures _ c.read_number-number.ensures.0 _
+    (start_within c.args.file.now c.args.at _ c.skip_white-start.ensures c.requires) c.if-start-at.false
+    c.if-number-start.false c.read_number-number.ensures.1

@@ -1,26 +1,17 @@
-use Rattle.pbm.proofs.RunLaws.{skipping_start, skipping_turn, skipping_stop, skipping_end}
+-- The bytes that the iterator takes are the run.
+use Rattle.std.proofs.Common.{◌≡◌, ◌+◌, ◌-◌, ◌∙◌, ap, length, take, drop, rules, tests}
+use Rattle.std.proofs.lemmas.Iterator.{YieldsList-from_slice}
+use Rattle.std.proofs.lemmas.Iterator.Search.{YieldsList-from_take_while}
+use Rattle.std.proofs.lemmas.Iterator.Consumers.{count_from_yields_List}
+use Rattle.text.proofs.WroteLaws.{part_is}
 use Rattle.pbm.specs.Header.{is_white}
-use native.Mathlib.Omega.{arith}
-use mathlib.Core.Path.{sym, ◌∙◌}
+use Rattle.pbm.proofs.RunLaws.{taken_is}
 use Rattle.pbm.proofs.skip_white.Goals as goal
 
-pub loop-i-init : goal.loop-i-init
-loop-i-init c = skipping_start is_white c.args.file.now c.args.at c.requires
-
-pub returns-then-not-is_white : goal.returns-then-not-is_white
-returns-then-not-is_white c =
-    let loop = c.loop-i in
-    let loop_test = c.loop-i-test in
-    skipping_stop loop.invariant loop_test.true (sym c.is_white.ensures ∙ c.if-not-is_white.true)
-
-pub loop-i-preserved : goal.loop-i-preserved
-loop-i-preserved c =
-    let loop = c.loop-i in
-    let loop_test = c.loop-i-test in
-    skipping_turn loop.invariant loop_test.true (sym c.is_white.ensures ∙ c.if-not-is_white.false)
-
 pub returns : goal.returns
-returns c = skipping_end c.loop-i.invariant c.loop-i-test.false
-
-pub loop-i-smaller : goal.loop-i-smaller
-loop-i-smaller c = omega arith
+returns c =
+    let white = drop c.args.at c.args.file.now in
+    let lent : take (length c.args.file.now - c.args.at) white ≡ white = part_is c.args.at c.args.file.now in
+    ap (λ n. c.args.at + n) (count_from_yields_List c.take_while.result _ c.count.ensures.ran
+    (YieldsList-from_take_while _ is_white (YieldsList-from_slice white cc) c.take_while.ensures.closure
+    c.take_while.ensures.done (λ x b q k. search (rules, tests))) ∙ ap length (taken_is is_white white))

@@ -1,14 +1,18 @@
 -- The pieces one after the other.
-use Rattle.std.proofs.Common.{length}
+use Rattle.std.proofs.Common.{ℕ, length, length-append, arith}
 use Rattle.text.proofs.WroteLaws.{room_first, wrote_both, wrote_as, fits_as}
-use Rattle.pgm.proofs.HeaderLaws.{header_pieces, header_made}
+use Rattle.pgm.proofs.HeaderLaws.{header_made}
+use Rattle.pgm.specs.PgmText.{pgm_header}
 use Rattle.pgm.proofs.write_header.Goals as goal
+
+pub write_bytes-requires : goal.write_bytes-requires
+unfolding pgm_header
+write_bytes-requires c = grind (arith, length-append {A = ℕ})
 
 pub returns : goal.returns
 returns c =
     let args = c.args in
-    let h = args.header in
-    let made = header_made args.magic.now h.done h.due h.width h.height h.maximum in
+    let made = header_made args.magic.now args.header in
     let room = fits_as _ _ args.at (length args.out.now) made c.requires in
     let before_end = room_first _ _ _ _ room in
     let before_maximum = room_first _ _ _ _ before_end in

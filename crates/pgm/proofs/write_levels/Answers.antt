@@ -1,11 +1,5 @@
-use Rattle.pgm.proofs.LevelLaws.{levels_start, levels_room, levels_turn, levels_end}
+use Rattle.pgm.proofs.LevelLaws.{levels_room, levels_turn, levels_end}
 use Rattle.pgm.proofs.write_levels.Goals as goal
-
-pub loop-row-init : goal.loop-row-init
-loop-row-init c =
-    let args = c.args in
-    let rows = c.into_iter-row-iterator.result in
-    levels_start args.width args.height args.levels.now args.at args.out.now rows.size rows.rest.now (cc) (cc) c.requires.1.0
 
 pub write_row-end-requires : goal.write_row-end-requires
 write_row-end-requires c =

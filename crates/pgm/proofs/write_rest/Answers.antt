@@ -1,8 +1,5 @@
-use Rattle.pgm.proofs.RowLaws.{rest_start, rest_room, rest_turn, rest_last, rest_end}
+use Rattle.pgm.proofs.RowLaws.{rest_room, rest_turn, rest_last, rest_end}
 use Rattle.pgm.proofs.write_rest.Goals as goal
-
-pub loop-level-init : goal.loop-level-init
-loop-level-init c = rest_start c.args.rest.now c.args.start c.args.at c.args.out.now c.requires.0
 
 pub write_parted-next-requires : goal.write_parted-next-requires
 write_parted-next-requires c = (

@@ -1,5 +1,7 @@
 -- The three ways out are the three cases of a cell: not set, its row in the area, its row beyond it.
 use native.Mathlib.Omega.{arith}
+use borrow.Author.Rules.{rules}
+use Rattle.row.proofs.Pass.{pass_offered}
 use Prim.Native.Nat.{ℕ, ◌+◌, ◌-◌, ◌/◌, ◌*◌, ◌≤◌}
 use mathlib.Core.Bool.{true, ◌&&◌}
 use mathlib.Core.Path.{◌≡◌, refl, sym, ◌∙◌}
@@ -35,5 +37,6 @@ returns-then-contains c =
 pub returns-else-contains : goal.returns-else-contains
 unfolding cell_number
 returns-else-contains c =
-    pass_beyond c.args.area.now c.args.row c.args.k c.args.part.now c.args.worked.now c.lower_to.new.worked c.if-area-k-eq0.false
-    (in_range _ _ ∙ sym c.contains.ensures.value ∙ c.if-contains.false) (rw c.requires.1.1.0 at c.lower_to.ensures)
+    let lowered = pass_offered _ (λ j. c.args.area.now.beyond) _ _ c.lower_each.auto.levels (λ i level h p. search rules) c.lower_each.ensures in
+    pass_beyond c.args.area.now c.args.row c.args.k c.args.part.now c.args.worked.now c.lower_each.new.levels c.if-area-k-eq0.false
+    (in_range _ _ ∙ sym c.contains.ensures.value ∙ c.if-contains.false) (rw c.requires.1.1.0 at lowered)

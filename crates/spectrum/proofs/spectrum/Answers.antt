@@ -1,53 +1,36 @@
--- A refusal is the judge's; an accepted call fills the table from its finished first run, and its summary is the table's.
+-- An accepted call fills the table from its finished first run, and its summary is the table's.
 use Rattle.filters.specs.Filters.{Buffers}
-use Rattle.spectrum.proofs.Answers.{opening_starts, opening_run, run_ready, run_levels, is_table, refused_kept, answered}
+use Rattle.spectrum.proofs.Answers.{opening_starts, run_ready, run_levels, is_table, answered}
 use mathlib.Core.Path.{sym, ap, ◌∙◌}
 use lib.ListN.{replicate}
 use Rattle.spectrum.proofs.spectrum.Goals as goal
-
-pub returns-then-refusal-ne0 : goal.returns-then-refusal-ne0
-returns-then-refusal-ne0 c =
-    let refused = c.refused.ensures in
-    let args = c.args in
-    let lent : Buffers = record { first = args.first.now; second = args.second.now; out = args.table.now } in
-    refused_kept args.input args.sheet.now args.bytes.now lent c.if-refusal-ne0.true
-    c.spectrum_refusal-refusal.ensures refused.0 refused.1
 
 pub first_run-run-requires : goal.first_run-run-requires
 first_run-run-requires c =
     let args = c.args in
     let lent : Buffers = record { first = args.first.now; second = args.second.now; out = args.table.now } in
-    opening_starts args.input args.sheet.now args.bytes.now lent
-    (sym c.spectrum_refusal-refusal.ensures ∙ c.if-refusal-ne0.false) c.opening_plan.ensures
+    opening_starts args.input args.sheet.now args.bytes.now lent (sym c.in_ok-check_spectrum.ensures)
 
 pub fill_table-requires : goal.fill_table-requires
 fill_table-requires c =
     let args = c.args in
     let lent : Buffers = record { first = args.first.now; second = args.second.now; out = args.table.now } in
-    let accepted = sym c.spectrum_refusal-refusal.ensures ∙ c.if-refusal-ne0.false in
-    let run = opening_run args.input args.sheet.now args.bytes.now lent accepted
-    c.opening_plan.ensures c.first_run-run.ensures in (
-      run_ready args.input args.sheet.now args.bytes.now lent accepted run,
-      run_levels args.input args.sheet.now args.bytes.now lent accepted run,
+    let accepted = sym c.in_ok-check_spectrum.ensures in (
+      run_ready args.input args.sheet.now args.bytes.now lent accepted c.first_run-run.ensures,
+      run_levels args.input args.sheet.now args.bytes.now lent accepted c.first_run-run.ensures,
     )
 
 pub summary_of-requires : goal.summary_of-requires
 summary_of-requires c =
     let args = c.args in
     let lent : Buffers = record { first = args.first.now; second = args.second.now; out = args.table.now } in
-    let accepted = sym c.spectrum_refusal-refusal.ensures ∙ c.if-refusal-ne0.false in
-    let run = opening_run args.input args.sheet.now args.bytes.now lent accepted
-    c.opening_plan.ensures c.first_run-run.ensures in
-    is_table args.input args.sheet.now args.bytes.now lent accepted run c.fill_table.ensures.1
+    is_table args.input args.sheet.now args.bytes.now lent (sym c.in_ok-check_spectrum.ensures) c.first_run-run.ensures
+    c.fill_table.ensures.1
 
 pub returns : goal.returns
 returns c =
     let args = c.args in
     let lent : Buffers = record { first = args.first.now; second = args.second.now; out = args.table.now } in
-    let accepted = sym c.spectrum_refusal-refusal.ensures ∙ c.if-refusal-ne0.false in
-    let run = opening_run args.input args.sheet.now args.bytes.now lent accepted
-    c.opening_plan.ensures c.first_run-run.ensures in
     let fills = c.fill_table.ensures in
-    let cleared = c.clear_both.ensures in
-    answered args.input args.sheet.now args.bytes.now lent accepted run fills.1
-    cleared.0 (cleared.1 ∙ ap (λ n. replicate n 0) fills.0) c.summary_of.ensures
+    answered args.input args.sheet.now args.bytes.now lent (sym c.in_ok-check_spectrum.ensures) c.first_run-run.ensures fills.1
+    (c.fill.ensures.after (λ y e. e)) (c.fill-2.ensures.after (λ y e. e) ∙ ap (λ n. replicate n 0) fills.0) c.summary_of.ensures

@@ -1,9 +1,6 @@
--- A word and its number a turn.
-use Rattle.std.proofs.Common.{length, ◌-◌, ◌≤◌}
+-- Each turn leaves less of the words.
+use Rattle.std.proofs.Common.{length}
 use Rattle.cases.proofs.lists.asked.Given as goal
 
-abbrev pub invariant-loop-at : goal.invariant-loop-at
-invariant-loop-at l = l.at ≤ length l.words
-
-abbrev pub decreases-loop-at : goal.decreases-loop-at
-decreases-loop-at l = length l.words - l.at
+abbrev pub decreases-loop-left : goal.decreases-loop-left
+decreases-loop-left l = length l.left

@@ -1,33 +1,12 @@
--- A refusal is the judge's; an accepted plan has its first run started and finished, and what the way back leaves is right.
-use Rattle.basics.proofs.RefusalLaws.{refuses}
-use Rattle.filters.proofs.SheetAnswers.{plan_starts}
-use Rattle.filters.proofs.LevelAnswers.{levels_ready, levels_answered}
+-- An accepted plan has its first run finished; what the way back leaves is right.
+use Rattle.filters.proofs.LevelAnswers.{levels_ready}
 use Rattle.filters.specs.Filters.{Buffers}
-use mathlib.Core.Path.{sym, ◌∙◌}
+use mathlib.Core.Path.{refl, sym}
 use Rattle.filters.proofs.answering.answer_levels.Goals as goal
-
-pub returns-then-refusal-ne0 : goal.returns-then-refusal-ne0
-returns-then-refusal-ne0 c = refuses _ c.if-refusal-ne0.true c.filter_refusal-refusal.ensures
-
-pub first_run-run-requires : goal.first_run-run-requires
-first_run-run-requires c =
-    let args = c.args in
-    let lent : Buffers = record { first = args.first.now; second = args.second.now; out = args.out.now } in
-    plan_starts args.input args.sheet.now args.bytes.now args.plan lent
-    (sym c.filter_refusal-refusal.ensures ∙ c.if-refusal-ne0.false)
 
 pub filter_levels-requires : goal.filter_levels-requires
 filter_levels-requires c =
     let args = c.args in
+    let run = c.in_ok-run.ensures in
     let lent : Buffers = record { first = args.first.now; second = args.second.now; out = args.out.now } in
-    levels_ready args.input args.sheet.now args.bytes.now args.plan lent
-    (sym c.filter_refusal-refusal.ensures ∙ c.if-refusal-ne0.false) c.requires c.first_run-run.ensures
-
-pub returns : goal.returns
-returns c =
-    let args = c.args in
-    let right = c.filter_levels.ensures in
-    let lent : Buffers = record { first = args.first.now; second = args.second.now; out = args.out.now } in
-    levels_answered args.input args.sheet.now args.bytes.now args.plan lent
-    (sym c.filter_refusal-refusal.ensures ∙ c.if-refusal-ne0.false) c.requires c.first_run-run.ensures _
-    right.0 right.1.0 right.1.1
+    levels_ready args.input args.sheet.now args.bytes.now args.plan lent (sym run.refusal) c.requires (run.accepted refl)

@@ -1,12 +1,15 @@
--- The way back leaves the second buffer as long as it was.
+-- The way back leaves the second buffer as long as it was; what is found is packed.
+use Rattle.filters.proofs.SheetAnswers.{kept_sheet_lem}
 use lib.ListN.{replicate}
 use mathlib.Core.Path.{ap, ◌∙◌}
 use Rattle.filters.proofs.back.filter_sheet.Goals as goal
 
 pub returns : goal.returns
 returns c =
-    let sheet_back = c.sheet_back in
-    let Clear-both = c.clear_both in (
-      Clear-both.ensures.0,
-      (Clear-both.ensures.1 ∙ ap (λ n. replicate n 0) sheet_back.ensures.0, sheet_back.ensures.1),
+    let found = c.find_size in (
+      c.fill.ensures.after (λ y e. e),
+      (
+        c.fill-2.ensures.after (λ y e. e) ∙ ap (λ n. replicate n 0) found.ensures.0,
+        kept_sheet_lem found.new.second found.ensures.1 c.pack_back.ensures,
+      ),
     )

@@ -1,7 +1,5 @@
 use Rattle.filters.proofs.LevelRounds.{steps_start, steps_turn, steps_end, step_small}
 use native.Mathlib.Omega.{arith}
-use mathlib.Core.Path.{sym, ap, ◌∙◌}
-use lib.ListN.{length, length-replicate}
 use Rattle.filters.proofs.levels.go_through.Goals as goal
 
 pub loop-k-init : goal.loop-k-init
@@ -11,25 +9,12 @@ pub one_size-requires : goal.one_size-requires
 one_size-requires c =
     let steps = c.loop-k.invariant in
     let pre = c.requires in
-    let size = step_small pre.1.1.0 pre.1.0 c.loop-k-test.true c.size_at.ensures in
-    (steps.given, (size.0, steps.room))
-
-pub loop-k-smaller : goal.loop-k-smaller
-loop-k-smaller c = omega (arith, c.loop-k-test.true)
+    (steps.given, ((step_small pre.1.1.0 pre.1.0 c.loop-k-test.true c.size_at.ensures).0, steps.room))
 
 pub loop-k-preserved : goal.loop-k-preserved
 loop-k-preserved c =
     let pre = c.requires in
-    steps_turn pre.1.1.0 pre.1.0 c.loop-k.invariant c.loop-k-test.true c.size_at.ensures
-    c.one_size.ensures
-
-pub shape_of-second : goal.shape_of-second
-shape_of-second c = c.loop-k.invariant.given.second_size ∙ sym c.requires.0.second_size
-
-pub shape_of-out : goal.shape_of-out
-shape_of-out c =
-    let pre = c.requires in
-    c.loop-k.invariant.room ∙ sym (ap length pre.1.1.1 ∙ length-replicate _ 0)
+    steps_turn pre.1.1.0 pre.1.0 c.loop-k.invariant c.loop-k-test.true c.size_at.ensures c.one_size.ensures
 
 pub returns : goal.returns
 returns c = steps_end c.requires.1.1.0 c.loop-k.invariant (omega arith)

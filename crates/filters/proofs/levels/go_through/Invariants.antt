@@ -1,10 +1,6 @@
 -- The loop's invariant: the first k sizes are gone through.
 use Rattle.filters.proofs.LevelRounds.{Steps}
-use Prim.Native.Nat.{◌-◌}
 use Rattle.filters.proofs.levels.go_through.Given as goal
 
 abbrev pub invariant-loop-k : goal.invariant-loop-k
 invariant-loop-k l = Steps l.plan l.run l.first l.count l.k l.second l.out
-
-abbrev pub decreases-loop-k : goal.decreases-loop-k
-decreases-loop-k l = l.count - l.k

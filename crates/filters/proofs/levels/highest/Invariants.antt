@@ -1,11 +1,6 @@
--- The loop's invariant: the highest of the first k levels.
+-- The loop's invariant: the highest of the levels before.
 use Rattle.filters.specs.Back.{Highest}
-use Prim.Native.Nat.{◌-◌}
-use lib.ListN.{length}
 use Rattle.filters.proofs.levels.highest.Given as goal
 
-abbrev pub invariant-loop-k : goal.invariant-loop-k
-invariant-loop-k l = Highest l.levels l.k l.most
-
-abbrev pub decreases-loop-k : goal.decreases-loop-k
-decreases-loop-k l = length l.levels - l.k
+abbrev pub invariant-loop-level : goal.invariant-loop-level
+invariant-loop-level l = Highest l.levels l.level-index l.most

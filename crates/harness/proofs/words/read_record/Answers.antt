@@ -1,46 +1,34 @@
 -- The words are there, and the kind, the cells and the edge rule are bytes.
-use Rattle.harness.proofs.WordLaws.{record_word, record_kind, record_byte, record_is}
+use Rattle.std.proofs.Common.{arith, rules, sym, ◌∙◌}
 use Rattle.harness.specs.Boundary.{record_cells}
-use borrow.Author.Rules.{rules}
-use native.Mathlib.Omega.{arith}
+use Rattle.harness.proofs.WordLaws.{record_word, record_kind, record_byte}
 use Rattle.harness.proofs.words.read_record.Goals as goal
 
-pub byte_of-kind-requires : goal.byte_of-kind-requires
-byte_of-kind-requires c =
-    let args = c.args in
-    record_kind args.words.now c.requires
+pub overflow_cast-result : goal.overflow_cast-result
+overflow_cast-result c =
+    omega (arith, record_kind c.args.words.now (sym c.holds_no_record.ensures ∙ c.if-holds_no_record.false))
 
-pub byte_of-edge-requires : goal.byte_of-edge-requires
-byte_of-edge-requires c =
-    let args = c.args in
-    record_byte args.words.now c.requires record_cells (omega arith)
-
-pub returns : goal.returns
-returns c =
-    let args = c.args in
-    let read_cells = c.read_cells-cells in
-    let byte_of = c.byte_of-kind in
-    let byte_of2 = c.byte_of-edge in
-    record_is args.words.now c.requires read_cells.result byte_of.result byte_of2.result
-    read_cells.ensures byte_of.ensures byte_of2.ensures
+pub overflow_cast-result-2 : goal.overflow_cast-result-2
+overflow_cast-result-2 c =
+    omega (arith, record_byte c.args.words.now (sym c.holds_no_record.ensures ∙ c.if-holds_no_record.false) record_cells (omega arith))
 
 pub bounds-words-0 : goal.bounds-words-0
-bounds-words-0 c = search (rules, record_word)
-
-pub bounds-words-55 : goal.bounds-words-55
-bounds-words-55 c = search (rules, record_word)
+bounds-words-0 c = let h = sym c.holds_no_record.ensures ∙ c.if-holds_no_record.false in search (rules, record_word)
 
 pub bounds-words-1 : goal.bounds-words-1
-bounds-words-1 c = search (rules, record_word)
+bounds-words-1 c = let h = sym c.holds_no_record.ensures ∙ c.if-holds_no_record.false in search (rules, record_word)
 
 pub bounds-words-2 : goal.bounds-words-2
-bounds-words-2 c = search (rules, record_word)
+bounds-words-2 c = let h = sym c.holds_no_record.ensures ∙ c.if-holds_no_record.false in search (rules, record_word)
 
 pub bounds-words-3 : goal.bounds-words-3
-bounds-words-3 c = search (rules, record_word)
+bounds-words-3 c = let h = sym c.holds_no_record.ensures ∙ c.if-holds_no_record.false in search (rules, record_word)
 
 pub bounds-words-4 : goal.bounds-words-4
-bounds-words-4 c = search (rules, record_word)
+bounds-words-4 c = let h = sym c.holds_no_record.ensures ∙ c.if-holds_no_record.false in search (rules, record_word)
 
 pub bounds-words-5 : goal.bounds-words-5
-bounds-words-5 c = search (rules, record_word)
+bounds-words-5 c = let h = sym c.holds_no_record.ensures ∙ c.if-holds_no_record.false in search (rules, record_word)
+
+pub bounds-words-55 : goal.bounds-words-55
+bounds-words-55 c = let h = sym c.holds_no_record.ensures ∙ c.if-holds_no_record.false in search (rules, record_word)

@@ -1,12 +1,9 @@
--- The numbers are written first, and the bytes after them.
+use Rattle.std.proofs.Common.{arith, rules}
 use Rattle.harness.proofs.WordLaws.{record_stored}
 use Rattle.harness.proofs.words.write_record.Goals as goal
 
 pub returns : goal.returns
 returns c =
-    let args = c.args in
-    let word_of = c.word_of in
-    let write_numbers = c.write_numbers in
-    let write_bytes = c.write_bytes in
-    record_stored args.run args.words.now write_numbers.new.words write_bytes.new.words
-    word_of.result word_of.ensures write_numbers.ensures write_bytes.ensures
+    let loop = c.loop-k in
+    record_stored c.args.run loop.words c.from-2.result loop.invariant.0 (search rules) loop.invariant.1.0
+    (λ k l. loop.invariant.1.1 k (omega arith)) c.from-2.ensures

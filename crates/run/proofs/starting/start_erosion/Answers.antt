@@ -11,7 +11,7 @@ fill_levels-requires c =
     let t = erosion_taken input.width input.height args.sheet.now input.side args.bytes.now args.levels.now
     (sym c.in_ok-check_erosion.ensures) in
     let j = judged input.width input.height args.sheet.now input.side args.bytes.now t.0 in
-    rw c.start_record-run.ensures (
+    rw c.fresh_record-run.ensures (
       j.element.side_is,
       (omega arith, (frame_canvas input.width input.height input.side args.levels.now j.wide.1 j.high.1 t.1, j.sheet_size_lem)),
     )

@@ -1,13 +1,17 @@
 -- The frame is read in its part of the levels, between the bounds of what is held.
-use Rattle.filters.proofs.BackSteps.{part_canvas}
+use Rattle.run.proofs.RecordLaws.{sound}
+use Rattle.filters.proofs.BackSteps.{back_canvas}
 use Rattle.spectrum.proofs.Finding.{found_counted}
 use Rattle.spectrum.proofs.counting.count_found.Goals as goal
 
-pub count_rows-requires : goal.count_rows-requires
-count_rows-requires c =
-    let pre = c.requires in part_canvas pre.0 pre.1.0 c.held_part-part.ensures
+pub frame_of-requires : goal.frame_of-requires
+frame_of-requires c = let s = sound c.args.run c.requires.0 in (s.side_is, s.cap_small)
+
+pub count_frame-requires : goal.count_frame-requires
+count_frame-requires c = rw c.frame_of.ensures.0 (back_canvas c.args.run c.requires.0 c.requires.1.0)
 
 pub returns : goal.returns
 returns c =
     let args = c.args in
-    found_counted args.run args.size args.second.now c.held_part-part.ensures c.count_rows.ensures
+    found_counted args.run args.size args.second.now c.frame_of.ensures.0 c.back_bounds-bounds.result
+    c.back_bounds-bounds.ensures c.count_frame.ensures
