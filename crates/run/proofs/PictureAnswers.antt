@@ -73,7 +73,8 @@ module _ {r : Record} (s : Sound r) where
       (fun_ext (λ row. fun_ext (λ col. collected_level_lem (level_in r.width (margin r) levels row col)))))
 
   -- a level between the bounds is a level held
-  pub held_level : (n : ℕ) → n ≤ 4096 → (level : ℕ) → held_between (low_of r n) (high_of r n) level ≡ cond (is_held_at r n level) 1 0
+  pub held_level : (n : ℕ) → n ≤ 4096 → (level : ℕ)
+      → held_between (low_of r n) (high_of r n) level ≡ cond (is_held_at r n level) 1 0
   unfolding held_between
   held_level n l level = go (kind_of r)
     where
@@ -91,7 +92,8 @@ module _ {r : Record} (s : Sound r) where
       go Dilating = rw (ne_eqb (n + 1) none (λ z. omega arith), add-one n) (swap (leb level (suc n)) (leb 1 level))
       go Cropping = ap (λ t. cond t 1 0) (cropped_above r.cap n level s.cap_small l)
 
-  pub is_thresholded : (levels : List ℕ) (n : ℕ) → n ≤ 4096 → (f : Frame) → f ≡ frame_of r → (bounds : Bounds) → bounds ≡ bounds_of r n
+  pub is_thresholded : (levels : List ℕ) (n : ℕ) → n ≤ 4096 → (f : Frame) → f ≡ frame_of r
+      → (bounds : Bounds) → bounds ≡ bounds_of r n
       → packed f.width f.height (λ row col. held_between bounds.low bounds.high (level_in f.width f.margin levels row col))
       ≡ thresholded r levels n
   unfolding thresholded

@@ -53,6 +53,8 @@ taken_side side cells e = go (is_side side) refl e
     go true p q = p
     go false p q = absurd (true≢false q)
 
+pub ruleset parts = (side_in, taken_side)
+
 -- margins
 pub margin_small : (cap side : ℕ) → is_side side ≡ true → cap ≤ 2047 → margin_of cap side ≤ 6141
 margin_small cap side e l = mul-le-mul l (let b = side_bounds side e in let h : reach side ≤ 3 = omega arith in h)

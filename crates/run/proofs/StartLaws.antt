@@ -83,8 +83,8 @@ module _ (width height margin : ℕ) (sheet : List ℕ) (on off outside row : �
             let s : margin + width - margin ≡ width = omega arith in
             let e : n ≡ width = n-is ∙ rw s (length-take-le width (drop margin begun) (omega arith)) in
             filling_part width begun_is s (omega arith)
-            ((rw e at q) ∙ table_same (λ col. cond (eqb (pixel width sheet (row - margin) col) 1) on off) (λ j. level_here (margin + j)) width
-            column_in)
+            ((rw e at q) ∙ table_same (λ col. cond (eqb (pixel width sheet (row - margin) col) 1) on off)
+            (λ j. level_here (margin + j)) width column_in)
 
         pub row_parts : {right : List ℕ}
             → right ≡ replicate (length (mid_of (margin + width) (length most - (margin + width)) most)) outside

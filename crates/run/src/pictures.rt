@@ -1,4 +1,5 @@
-// Pictures of a finished run: its levels collected, and the sheet that it holds at a size; and how both, and a look, are judged and packed.
+// Pictures of a finished run: its levels collected, and the sheet that it holds at a size; and how both, and a look, are judged and
+// packed.
 ghost use Rattle.std.specs.Prelude.{◌≡◌, false, ◌+◌, ◌*◌, ◌/◌, ◌≤◌, length, get_or};
 ghost use Rattle.basics.specs.Limits.{longest_side};
 ghost use Rattle.basics.specs.Refusals.{first, number};

@@ -126,7 +126,7 @@ fn cap_foreign(run: Record) -> bool
 }
 
 // Whether no start gives the record, rows done aside.
-#[tactic(auto, using(sheet::proofs::FrameLaws::side_in, crate::proofs::RecordLaws::taken_side), unfolding(crate::specs::Records::foreign))]
+#[tactic(auto, using(crate::proofs::RecordLaws::parts), unfolding(crate::specs::Records::foreign))]
 fn record_foreign(run: Record) -> bool
     ensures { result ≡ foreign run }
 {

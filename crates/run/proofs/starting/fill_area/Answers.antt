@@ -11,7 +11,12 @@ slice_bounds-fill_row-end c =
     rows_inside c.loop-row.invariant c.area_width-side.ensures (rw c.area_height-row-end.ensures at c.loop-row-test.true)
 
 pub loop-row-preserved : goal.loop-row-preserved
-loop-row-preserved c = rows_turn c.loop-row.invariant c.area_width-side.ensures (rw c.area_height-row-end.ensures at c.loop-row-test.true) c.fill_row.ensures
+loop-row-preserved c =
+    rows_turn c.loop-row.invariant c.area_width-side.ensures (rw c.area_height-row-end.ensures at c.loop-row-test.true)
+    c.fill_row.ensures
 
 pub returns : goal.returns
-returns c = start_raster c.args.starts.on c.args.starts.off c.args.starts.outside c.args.sheet.now c.args.frame c.loop-row.invariant (let h = c.area_height-row-end.ensures in omega arith)
+returns c =
+    let starts = c.args.starts in
+    let high = c.area_height-row-end.ensures in
+    start_raster starts.on starts.off starts.outside c.args.sheet.now c.args.frame c.loop-row.invariant (omega arith)
