@@ -1,13 +1,11 @@
 -- The steps of the way back, as the code takes them, each in the terms of its definition.
 use Prim.Native.Nat.{ℕ, ◌-◌, ◌*◌, ◌≤◌, min}
-use native.Mathlib.Nat.{zero-add}
 use native.Mathlib.Omega.{arith}
 use mathlib.Core.Path.{◌≡◌, refl, sym, ap, ap₂, ◌∙◌, fun_ext}
 use mathlib.Core.Bool.{Bool, true, false, cond}
 use mathlib.Core.List.{List}
 use lib.Dec.{eqb}
-use lib.ListN.{length, get_or, replicate, length-replicate, get_or-replicate}
-use lib.Seq.{ext_get_or}
+use lib.ListN.{length, get_or}
 use borrow.Author.Tests.{le-ltb, eq-eqb}
 use Rattle.basics.specs.Limits.{largest_size, most_rows}
 use Rattle.basics.specs.Refusals.{first}
@@ -52,12 +50,6 @@ module _ (r : Record) (taken : foreign r ≡ false) (fresh : r.rows ≡ 0) (leve
         let s = (sound r taken).area_high in
         let w : min most_rows (due r - r.rows) ≡ due r = let f = fresh in omega arith in
         ap (λ t. t.0.2) (a.accepted finish_accepted) ∙ ap₂ (λ d n. scan_rows (area_of r) d n levels) fresh w
-
--- the record of the way back
-pub back_record : (r : Record) (kind width height : ℕ) (cells : List ℕ) → kind ≡ cond (eqb r.kind 1) 2 1 → width ≡ area_width r
-    → height ≡ area_height r → cells ≡ r.cells
-    → record { kind = kind; width = width; height = height; cap = 0; side = r.side; rows = 0; cells = cells; edge = 0 } ≡ back r
-back_record r kind width height cells p q s t = rw (p, q, s, t)
 
 module _ (r : Record) (first : List ℕ) (n : ℕ) where
   start_length : length (back_start r first n) ≡ length first

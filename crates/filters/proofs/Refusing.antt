@@ -1,7 +1,7 @@
 -- What the four calls are refused for, judged once: the input, then the size, then the canvas and the lengths of the buffers.
 -- Each call's own list gives the same number: an opening works with a cap of 0, whose canvas is the frame, so that 9 never
 -- applies.
-use Prim.Native.Nat.{ℕ, ◌*◌, ◌≤◌, ◌<◌}
+use Prim.Native.Nat.{ℕ, ◌*◌, ◌≤◌}
 use native.Mathlib.Nat.{zero-mul}
 use native.Mathlib.Decide.{ℕ_discrete}
 use native.Mathlib.Omega.{arith}
@@ -11,7 +11,7 @@ use mathlib.Core.Logic.{◌≢◌}
 use mathlib.Core.List.{List, [], ◌∷◌, ◌++◌}
 use lib.Dec.{T, eqb, ltb}
 use lib.ListN.{length}
-use borrow.Author.Tests.{lt-ltb, le-ltb, ltb-false, eq-eqb, ne_eqb, eqb-true, not-false}
+use borrow.Author.Tests.{le-ltb, ltb-false, eqb-true, not-false}
 use Rattle.basics.specs.Limits.{longest_side, largest_size, highest_cap}
 use Rattle.std.specs.Prelude.{Result, Ok, Err}
 use Rattle.std.specs.Result.{IsOk}
@@ -19,7 +19,6 @@ use Rattle.basics.specs.declared.refusal.Refusal as declared
 use Rattle.basics.specs.Refusals.{Refusal, first, number, Answers}
 use Rattle.basics.proofs.RefusalLaws.{numbered, number_positive, judged_first, judged_next, first_refused, first_accepted, first_both, passed}
 use Rattle.grid.specs.Figures.{reach}
-use Rattle.sheet.specs.Sheets.{row_bytes}
 use Rattle.run.specs.Records.{margin_of, canvas_side}
 use Rattle.run.specs.Starting.{canvas_refusals}
 use Rattle.run.proofs.Starts.{judged, canvas_taken}
@@ -39,15 +38,6 @@ has_value (Err refusal) e = absurd (number_positive refusal e)
 -- a plan by its fields
 abbrev pub plan_of : Bool → ℕ → Bool → Plan
 plan_of closing size packed = record { closing = closing; size = size; packed = packed }
-
--- entries to a row
-pub entries_sheet : (t : Bool) (width n : ℕ) → t ≡ true → n ≡ row_bytes width → width ≤ longest_side
-    → (n ≡ entries_of t width) × (n ≤ longest_side)
-entries_sheet t width n e q l = (rw e q, omega arith)
-
-pub entries_levels : (t : Bool) (width : ℕ) → t ≡ false → width ≤ longest_side
-    → (width ≡ entries_of t width) × (width ≤ longest_side)
-entries_levels t width e l = (rw e, l)
 
 module _ (input : Input) (sheet bytes : List ℕ) (plan : Plan) where
   -- a cap is small wherever 8 does not apply
@@ -70,10 +60,6 @@ module _ (input : Input) (sheet bytes : List ℕ) (plan : Plan) where
     start_input n e = judged_first (input_refusals input sheet bytes) ((8, ltb (limit_of plan) plan.size) ∷ canvas) n e
 
     module _ (z : first (input_refusals input sheet bytes) ≡ 0) where
-      pub start_size : limit_of plan < plan.size → 8 ≡ first (start_refusals input sheet bytes plan count)
-      start_size l = judged_next (input_refusals input sheet bytes) ((8, ltb (limit_of plan) plan.size) ∷ canvas) tt z
-          (rw (lt-ltb (limit_of plan) plan.size l))
-
       pub start_canvas : plan.size ≤ limit_of plan → {number : ℕ} → number ≡ first canvas
           → number ≡ first (start_refusals input sheet bytes plan count)
       start_canvas l e = judged_next (input_refusals input sheet bytes) ((8, ltb (limit_of plan) plan.size) ∷ canvas) tt z
@@ -106,20 +92,9 @@ module _ (input : Input) (sheet bytes : List ℕ) (plan : Plan) where
     abbrev later : List Refusal
     later = (10, not (eqb second (closing_size input (cap_of plan)))) ∷ []
 
-    pub work_start : {number : ℕ} → number ≢ 0 → number ≡ first start
-        → number ≡ first (work_refusals input sheet bytes plan count second)
-    work_start n e = judged_first start later n e
-
     module _ (z : first start ≡ 0) where
       area : count ≡ closing_size input (cap_of plan)
       area = (start_taken count z).work_size
-
-      pub work_second : second ≢ count → 10 ≡ first (work_refusals input sheet bytes plan count second)
-      work_second n = judged_next start later tt z
-          (rw (ne_eqb second (closing_size input (cap_of plan)) (λ e. n (e ∙ sym area))))
-
-      pub work_fits : second ≡ count → 0 ≡ first (work_refusals input sheet bytes plan count second)
-      work_fits e = judged_next start later tt z (rw (eq-eqb second (closing_size input (cap_of plan)) (e ∙ area)))
 
     -- what a call with accepted work buffers has
     pub record WorkTaken : Type 0 where
@@ -144,16 +119,6 @@ module _ (input : Input) (sheet bytes : List ℕ) (plan : Plan) where
 
     abbrev last : List Refusal
     last = (11, not (eqb lent.out (input.height * entries_of plan.packed input.width))) ∷ []
-
-    pub plan_work : {number : ℕ} → number ≢ 0 → number ≡ first work → number ≡ first (plan_refusals input sheet bytes plan lent)
-    plan_work n e = judged_first work last n e
-
-    module _ (z : first work ≡ 0) {entries : ℕ} (q : entries ≡ entries_of plan.packed input.width) where
-      pub plan_out : lent.out ≢ input.height * entries → 11 ≡ first (plan_refusals input sheet bytes plan lent)
-      plan_out n = judged_next work last tt z (rw (← q, ne_eqb lent.out (input.height * entries) n))
-
-      pub plan_fits : lent.out ≡ input.height * entries → 0 ≡ first (plan_refusals input sheet bytes plan lent)
-      plan_fits e = judged_next work last tt z (rw (← q, eq-eqb lent.out (input.height * entries) e))
 
     -- what an accepted call has
     pub record Taken : Type 0 where

@@ -1,9 +1,8 @@
 -- Storing a size at the points that it holds, row by row; and the loops that go through the sizes.
-use Prim.Native.Nat.{ℕ, ◌+◌, ◌-◌, ◌*◌, ◌≤◌, ◌<◌, max}
-use native.Mathlib.Decide.{ℕ_discrete}
+use Prim.Native.Nat.{ℕ, ◌+◌, ◌-◌, ◌*◌, ◌≤◌, ◌<◌}
 use native.Mathlib.Omega.{arith}
 use mathlib.Core.Path.{◌≡◌, refl, sym, ap, ap₂, ◌∙◌, fun_ext}
-use mathlib.Core.Bool.{Bool, true, false, cond, false≢true}
+use mathlib.Core.Bool.{Bool, true, false, cond}
 use mathlib.Core.List.{List, ◌++◌}
 use lib.ListN.{length, get_or, set, take, drop, length-drop}
 use lib.Seq.{get_or-set_other}
@@ -24,7 +23,7 @@ use Rattle.run.specs.Pictures.{frame_level}
 use Rattle.run.proofs.PatchLaws.{Rows, rows_turn}
 use Rattle.filters.specs.declared.judging.Plan.{Plan}
 use Rattle.filters.specs.Plans.{Bounded, Counted}
-use Rattle.filters.specs.Back.{back, chosen, stored, Highest, HoldsAfter}
+use Rattle.filters.specs.Back.{back, chosen, stored, HoldsAfter}
 use Rattle.filters.proofs.BackSteps.{chosen_held}
 
 -- a loop that stores in a row, each entry by what it was: the first i are stored, the others are as they were
@@ -122,32 +121,7 @@ stored_length r second n out =
     length-raster r.width r.height
     (λ row col. cond (is_held_at (back r) n (frame_level r second row col)) (n + 1) (get_or out (row * r.width + col) 0))
 
--- the highest level
-pub highest_none : (levels : List ℕ) → Highest levels 0 0
-highest_none levels = record { all = λ j l. absurd (omega arith); least = λ bound h. omega arith }
-
-pub highest_turn : {levels : List ℕ} {k m : ℕ} → Highest levels k m → k < length levels → (v : ℕ) → v ≡ max m (get_or levels k 0)
-    → Highest levels (k + 1) v
-highest_turn {levels} {k} {m} P l v e = record {
-  all = λ j i. go j i (ℕ_discrete j k);
-  least = λ bound h. let a = P.least bound h in let b = h k l in omega arith;
-}
-  where
-    go : (j : ℕ) → j < k + 1 → Dec (j ≡ k) → get_or levels j 0 ≤ v
-    go j i (yes q) = let s = ap (λ i. get_or levels i 0) q in omega arith
-    go j i (no q) = let s = P.all j (omega arith) in omega arith
-
-pub highest_all : {levels : List ℕ} {k m : ℕ} → Highest levels k m → length levels ≤ k → Highest levels (length levels) m
-highest_all P l = record { all = λ j i. P.all j (omega arith); least = P.least }
-
 -- how many sizes there are
-pub counted_closing : {plan : Plan} {levels : List ℕ} → plan.closing ≡ true → Counted plan levels (plan.size + 1)
-counted_closing e = record { opening = λ f. absurd (false≢true (sym f ∙ e)); closing = λ _. refl }
-
-pub counted_opening : {plan : Plan} {levels : List ℕ} {count : ℕ} → plan.closing ≡ false → Highest levels (length levels) count
-    → Counted plan levels count
-counted_opening e h = record { opening = λ _. h; closing = λ f. absurd (false≢true (sym e ∙ f)) }
-
 pub count_small : (plan : Plan) {levels : List ℕ} {count : ℕ} → Bounded plan levels → Counted plan levels count
     → count ≤ largest_size
 count_small plan {levels} {count} b s = go plan.closing refl

@@ -6,7 +6,7 @@ use Rattle.sheet.specs.Sheets.{packed}
 use Rattle.run.specs.declared.Record.{Record}
 use Rattle.run.specs.declared.kinds.Bounds.{Bounds}
 use Rattle.run.specs.Kinds.{erosion_kind, dilation_kind, background_beyond, on_of, off_of, is_held_at}
-use Rattle.run.specs.Records.{margin, area_width, area_height, foreign}
+use Rattle.run.specs.Records.{area_width, area_height, foreign}
 use Rattle.run.specs.Patches.{held_between}
 use Rattle.run.specs.Pictures.{frame_level}
 use Rattle.run.specs.Demand2.{finished}

@@ -78,6 +78,7 @@ pub fn answer_sheet(
 }
 
 // Fills `out` with the levels that a plan asks for.
+// Kept: two functions, since the contracts' `Buffers` hold numbers, which an output of a type parameter does not.
 pub fn answer_levels(
     input: Input,
     sheet: &[u8],

@@ -24,11 +24,8 @@ module _ {A B : Type 0} {L M : List Refusal} {kept_a : A} {kept_b : B} {RightA :
   pub carried_answer : n ≡ 0 → (y : B) → (RightA x → RightB y) → Answers M kept_b RightB 0 y
   carried_answer z y k = accepts y (e ∙ sym p.refusal ∙ z) (k (p.accepted z))
 
--- words that should be a record: 1 where they hold none, else what the library answers of the record
+-- words that hold a record: what the library answers of it
 module _ {A : Type 0} {L : List Refusal} {kept : A} {Right : A → Type 0} (words : List ℕ) where
-  pub no_record : holds_no_record words ≡ true → Answers (words_refusal words ∷ L) kept Right 1 kept
-  no_record h = refuses 1 (λ q. absurd (omega arith)) (rw h)
-
   pub record_answers : holds_no_record words ≡ false → {n : ℕ} {x : A} → Answers L kept Right n x
       → Answers (words_refusal words ∷ L) kept Right n x
   record_answers h p = record { refusal = p.refusal ∙ rw h; accepted = p.accepted; refused = p.refused }

@@ -1,7 +1,6 @@
 -- The answers of the calls on files at the boundary, each from the tests that led to it and from the library's answer.
 use Prim.Native.Nat.{ℕ, ◌*◌}
-use native.Mathlib.Omega.{arith}
-use mathlib.Core.Path.{◌≡◌, sym, ap, ◌∙◌}
+use mathlib.Core.Path.{◌≡◌, ap, ◌∙◌}
 use mathlib.Core.Bool.{Bool, true, false, not}
 use mathlib.Core.Logic.{◌≢◌}
 use mathlib.Core.List.{List, [], ◌∷◌, ◌++◌}
@@ -16,11 +15,11 @@ use Rattle.run.specs.declared.Record.{Record}
 use Rattle.run.specs.Records.{record_bad}
 use Rattle.run.specs.Continuing.{is_done}
 use Rattle.pbm.specs.Header.{Header, broken, whole, begins_p4, header}
-use Rattle.pbm.specs.Pbm.{pbm_text, is_broken, frame_of, body_refusals, raster_refusals, write_refusals, ReadsPbm, WritesPbm}
+use Rattle.pbm.specs.Pbm.{pbm_text, is_broken, frame_of, body_refusals, raster_refusals, ReadsPbm}
 use Rattle.pgm.specs.WritePgm.{maximum, picture, pgm_refusals, WritesPgm}
 use Rattle.harness.specs.Boundary.{record_of, holds_no_record, answer_refusal, answered, at_latest}
 use Rattle.harness.specs.Files.{picture_refusals, framed, writes_refusals, ReadsSheet, WritesSheet, WritesPicture}
-use Rattle.harness.proofs.AnswerLaws.{latest_refuses, carried_refusal, carried_answer, answer_fits, room_same, room_zero}
+use Rattle.harness.proofs.AnswerLaws.{latest_refuses, carried_answer, answer_fits, room_same}
 use Rattle.harness.proofs.AnswerLaws.{room_some, slice_answers, two_stored}
 
 -- WRITING PBM
@@ -32,12 +31,6 @@ module _ (width height : ℕ) (sheet out answer : List ℕ) where
       (rw (ne_eqb (length answer) 1 a)
       (room_same (sheet_refusals width height sheet) tt (ltb (length out) (length (pbm_text width height sheet))))) e f
 
-  module _ (a : length answer ≡ 1) (n size : ℕ) (after : List ℕ) (p : WritesPbm width height sheet out n size after) where
-    pub write_answers : (next : List ℕ) → next ≡ answered n (size ∷ []) answer
-        → WritesSheet width height sheet out answer n (after, next)
-    write_answers next e =
-        slice_answers (λ length. length ∷ []) answer next p (answer_fits (write_refusals width height sheet out) tt 1 answer a) e
-
 -- READING PBM
 -- the header's and the raster's refusals, by the header that was found
 abbrev judged : Bool → Header → List Refusal
@@ -48,17 +41,6 @@ judged b (whole width height raster) = (21, not b) ∷ (22, false) ∷
 module _ (file out frame : List ℕ) where
   module _ (a : length frame ≢ 2) (room : List ℕ) (n width height : ℕ) (after : List ℕ)
       (p : ReadsPbm file room n width height after) where
-    pub read_other : n ≡ 0 → ReadsSheet file out frame 11 (out, frame)
-    read_other z = refuses 11 (λ q. absurd (omega arith))
-        (rw (ne_eqb (length frame) 2 a) (go (begins_p4 file) (header file) (sym p.refusal ∙ z)))
-      where
-        go : (b : Bool) (h : Header) → first (((21, not b) ∷ (22, is_broken h) ∷ frame_of h) ++ body_refusals h room) ≡ 0
-            → 11 ≡ first ((((21, not b) ∷ (22, is_broken h) ∷ frame_of h) ++ body_refusals h out) ++ (11, true) ∷ [])
-        go true broken e = absurd (omega arith)
-        go false broken e = absurd (omega arith)
-        go b (whole w l raster) e =
-            room_zero (judged b (whole w l raster)) tt (ltb (length out) (length raster)) (ltb (length room) (length raster)) e
-
     pub read_other_refuses : n ≢ 0 → ReadsSheet file out frame n (out, frame)
     read_other_refuses z = refuses n z (rw (ne_eqb (length frame) 2 a) (go (begins_p4 file) (header file) p.refusal))
       where
@@ -77,9 +59,6 @@ module _ (file out frame : List ℕ) where
     fits broken b = answer_fits (judged b broken) tt 2 frame a
     fits (whole w l raster) b =
         answer_fits (judged b (whole w l raster) ++ (11, ltb (length out) (length raster)) ∷ []) tt 2 frame a
-
-    pub read_refuses : n ≢ 0 → ReadsSheet file out frame n (after, frame)
-    read_refuses z = carried_refusal p (fits (header file) (begins_p4 file)) z (after, frame) (λ q. ap (λ x. (x.2, frame)) q)
 
     pub read_accepts : n ≡ 0 → ReadsSheet file out frame 0 (after, set (set frame 0 width) 1 height)
     read_accepts z = carried_answer p (fits (header file) (begins_p4 file)) z (

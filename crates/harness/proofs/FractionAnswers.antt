@@ -15,7 +15,7 @@ use Rattle.spectrum.specs.declared.Summary.{Summary}
 use Rattle.spectrum.specs.Spectrum.{is_blank, table_size, spectrum_refusals, GivesSpectrum}
 use Rattle.harness.specs.Boundary.{at_latest}
 use Rattle.harness.specs.Fractions.{fractions_of, fraction_refusals, GivesFractions}
-use Rattle.harness.proofs.AnswerLaws.{latest_refuses, carried_refusal, carried_answer, two_stored}
+use Rattle.harness.proofs.AnswerLaws.{latest_refuses, carried_answer, two_stored}
 
 module _ (input : Input) (sheet bytes : List ℕ) (lent : Buffers) (fractions : List Float) where
   -- 2 to 11, and 14
@@ -37,9 +37,6 @@ module _ (input : Input) (sheet bytes : List ℕ) (lent : Buffers) (fractions : 
     fits = rw (eq-eqb (length fractions) 2 a)
 
     module _ {n : ℕ} {after : Buffers} {summary : Summary} (p : GivesSpectrum input sheet bytes lent n (after, summary)) where
-      pub fractions_refused : n ≢ 0 → GivesFractions input sheet bytes lent fractions n (after, fractions)
-      fractions_refused z = carried_refusal p fits z (after, fractions) (λ e. ap (λ x. (x.0, fractions)) e)
-
       pub fractions_given : n ≡ 0
           → GivesFractions input sheet bytes lent fractions 0 (after, set (set fractions 0 summary.mean) 1 summary.share)
       fractions_given z =

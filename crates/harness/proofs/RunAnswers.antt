@@ -9,18 +9,17 @@ use lib.Dec.{T, ltb}
 use lib.ListN.{length, set}
 use borrow.Author.Tests.{eq-eqb, ne_eqb}
 use Rattle.basics.specs.declared.refusal.Refusal as declared
-use Rattle.basics.specs.Refusals.{Refusal, first, number_of, Answers}
+use Rattle.basics.specs.Refusals.{Refusal, first, number_of}
 use Rattle.basics.proofs.RefusalLaws.{numbered, number_positive}
 use Rattle.run.specs.declared.continuing.Continued.{Continued}
 use Rattle.run.specs.declared.Record.{Record}
 use Rattle.run.specs.Records.{record_bad, empty_record}
-use Rattle.run.specs.Starting.{begun}
 use Rattle.run.specs.Continuing.{levels_wrong, continue_refusals, Continues}
 use Rattle.run.specs.Provisional.{provisional_refusals, ShowsProvisional}
 use Rattle.harness.specs.Boundary.{record_words, words_of, record_of, holds_no_record, words_refusal, answer_refusal}
-use Rattle.harness.specs.Boundary.{at_eleven, answered, at_latest}
+use Rattle.harness.specs.Boundary.{at_eleven, at_latest}
 use Rattle.harness.specs.Runs.{StartsWords, flag, continue_words, ContinuesWords, ShowsProvisionalWords}
-use Rattle.harness.proofs.AnswerLaws.{up_to_eleven, latest_refuses, carried_refusal, carried_answer, answer_fits}
+use Rattle.harness.proofs.AnswerLaws.{up_to_eleven, latest_refuses, carried_refusal, carried_answer}
 use Rattle.harness.proofs.AnswerLaws.{one_stored, two_stored}
 
 -- STARTING, where the words are of another length than a record's

@@ -20,10 +20,11 @@ pub extern "C" fn wt_read_pbm(file: &[u8], out: &mut [u8], frame: &mut [u64]) ->
             Err(refusal) => refusal.number(),
         };
     }
-    match pbm::read_pbm(file, out) {
-        Ok(read) => {
-            frame[0] = read.width as u64;
-            frame[1] = read.height as u64;
+    let read = pbm::read_pbm(file, out);
+    match read {
+        Ok(sheet) => {
+            frame[0] = sheet.width as u64;
+            frame[1] = sheet.height as u64;
             0
         }
         Err(refusal) => refusal.number(),

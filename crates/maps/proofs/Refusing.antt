@@ -3,15 +3,14 @@
 use Prim.Native.Nat.{ℕ, ◌*◌}
 use native.Mathlib.Omega.{arith}
 use mathlib.Core.Path.{◌≡◌}
-use mathlib.Core.Bool.{true, false, not}
-use mathlib.Core.Logic.{◌≢◌}
+use mathlib.Core.Bool.{false, not}
 use mathlib.Core.List.{List, [], ◌∷◌}
 use lib.Dec.{eqb}
 use lib.ListN.{length}
-use borrow.Author.Tests.{eq-eqb, ne_eqb, eqb-true, not-false}
+use borrow.Author.Tests.{eq-eqb, eqb-true, not-false}
 use Rattle.basics.specs.Bounds.{any_above}
 use Rattle.basics.specs.Refusals.{Refusal, first}
-use Rattle.basics.proofs.RefusalLaws.{judged_first, judged_next, first_both, passed}
+use Rattle.basics.proofs.RefusalLaws.{judged_next, first_both, passed}
 use Rattle.sheet.specs.Sheets.{row_bytes}
 use Rattle.run.specs.Starting.{dilation_refusals}
 use Rattle.run.specs.declared.Input.{Input}
@@ -31,26 +30,12 @@ module _ (input : Input) (sheet bytes : List ℕ) (cap : ℕ) (map : List ℕ) (
   abbrev later : List Refusal
   later = (10, not (eqb (length map) (frame_size input))) ∷ room
 
-  pub refused_start : {number : ℕ} → number ≢ 0 → number ≡ first start → number ≡ first (map_refusals input sheet bytes cap map lent)
-  refused_start n e = judged_first start later n e
-
-  module _ (z : first start ≡ 0) where
-    pub refused_map : length map ≢ frame_size input → 10 ≡ first (map_refusals input sheet bytes cap map lent)
-    refused_map n = judged_next start later tt z (rw (ne_eqb (length map) (frame_size input) n))
-
-    module _ (same : length map ≡ frame_size input) {entries : ℕ} (q : entries ≡ row_bytes input.width) where
-      pub refused_out : length lent.out ≢ input.height * entries → 11 ≡ first (map_refusals input sheet bytes cap map lent)
-      refused_out n = judged_next start later tt z
-          (rw (eq-eqb (length map) (frame_size input) same, ← q, ne_eqb (length lent.out) (input.height * entries) n))
-
-      module _ (fits : length lent.out ≡ input.height * entries) where
-        pub refused_size : true ≡ any_above cap (sizes_seen input sheet map) → 8 ≡ first (map_refusals input sheet bytes cap map lent)
-        refused_size e = judged_next start later tt z
-            (rw (eq-eqb (length map) (frame_size input) same, ← q, eq-eqb (length lent.out) (input.height * entries) fits, ← e))
-
-        pub none_refused : false ≡ any_above cap (sizes_seen input sheet map) → 0 ≡ first (map_refusals input sheet bytes cap map lent)
-        none_refused e = judged_next start later tt z
-            (rw (eq-eqb (length map) (frame_size input) same, ← q, eq-eqb (length lent.out) (input.height * entries) fits, ← e))
+  -- nothing applies
+  pub none_refused : first start ≡ 0 → length map ≡ frame_size input → {entries : ℕ} → entries ≡ row_bytes input.width
+      → length lent.out ≡ input.height * entries → false ≡ any_above cap (sizes_seen input sheet map)
+      → 0 ≡ first (map_refusals input sheet bytes cap map lent)
+  none_refused z same {entries} q fits e = judged_next start later tt z
+      (rw (eq-eqb (length map) (frame_size input) same, ← q, eq-eqb (length lent.out) (input.height * entries) fits, ← e))
 
   -- what an accepted call has
   pub record Taken : Type 0 where

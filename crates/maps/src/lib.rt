@@ -29,7 +29,7 @@ fn is_above(input: Input, sheet: &[u8], map: &[u16], cap: usize, row: usize, col
     (pixel == 1) & (cap < usize::from(map[place]))
 }
 
-// Whether it has one in a row. Nothing branches on a size or a pixel, which follow no pattern.
+// Whether it has one in a row. Nothing branches on a size or a pixel, as `any` would; they follow no pattern.
 fn any_in_row(input: Input, sheet: &[u8], map: &[u16], cap: usize, row: usize) -> bool
     requires { Fits input sheet.now map.now × (row < input.height) }
     ensures { result || above_from cap (sizes_seen input sheet.now map.now) (row * input.width + input.width)

@@ -2,7 +2,7 @@
 -- contract.
 use Prim.Native.Nat.{ℕ, ◌+◌, ◌*◌, ◌≤◌, ◌<◌, max}
 use native.Mathlib.Omega.{arith}
-use mathlib.Core.Path.{◌≡◌, refl, sym, ap, ap₂, ◌∙◌}
+use mathlib.Core.Path.{◌≡◌, sym, ap, ◌∙◌}
 use mathlib.Core.Bool.{Bool, true, false, not}
 use mathlib.Core.Logic.{◌≢◌}
 use mathlib.Core.List.{List, [], ◌∷◌}
@@ -11,8 +11,7 @@ use lib.ListN.{length}
 use borrow.Author.Tests.{lt-ltb, le-ltb, eq-eqb, ne_eqb, eqb-true, ltb-false, not-false}
 use Rattle.basics.specs.Bounds.{any_above}
 use Rattle.basics.specs.Refusals.{Refusal, first}
-use Rattle.basics.proofs.RefusalLaws.{passed, refuses, accepts, rule_unique}
-use Rattle.text.specs.Writing.{begun}
+use Rattle.basics.proofs.RefusalLaws.{passed, rule_unique}
 use Rattle.row.specs.RowRule.{none}
 use Rattle.run.specs.declared.Record.{Record}
 use Rattle.run.specs.declared.kinds.Kind.{Kind}
@@ -21,9 +20,9 @@ use Rattle.run.specs.Kinds.{kind_of, by_kind}
 use Rattle.run.specs.Records.{due, foreign, record_bad}
 use Rattle.run.specs.Continuing.{is_done}
 use Rattle.run.proofs.RecordLaws.{Sound, sound, not_bad}
-use Rattle.pgm.specs.PgmText.{pgm_text}
-use Rattle.pgm.specs.Writing.{level_end, Picture}
-use Rattle.pgm.specs.WritePgm.{maximum, picture, pgm_refusals, WritesPgm}
+use Rattle.pgm.specs.declared.Header.{Header}
+use Rattle.pgm.specs.Writing.{level_end, picture_text, IsPicture}
+use Rattle.pgm.specs.WritePgm.{maximum, header_of, picture, pgm_refusals, WritesPgm}
 use Rattle.pgm.proofs.SizeLaws.{within_small, text_bound}
 
 module _ (r : Record) (levels out : List ℕ) where
@@ -40,48 +39,46 @@ module _ (r : Record) (levels out : List ℕ) where
   abbrev from_levels : List Refusal
   from_levels = (8, any_above (maximum r) levels) ∷ from_count
 
-  -- the tests as the code makes them, each after those before it
-  module _ {bad : Bool} (a : bad ≡ record_bad r) where
-    pub refuse_record : bad ≡ true → 1 ≡ first (pgm_refusals r levels out)
-    refuse_record e = rw (sym a ∙ e)
+  -- the tests as the code makes them, each after those before it, of the header that the picture states
+  module _ (sound : record_bad r ≡ false) {h : Header} (e : h ≡ header_of r) where
+    above_is : {above : Bool} → above ≡ any_above h.maximum levels → {found : Bool} → above ≡ found
+        → any_above (maximum r) levels ≡ found
+    above_is a b = ap (λ (h : Header). any_above h.maximum levels) (sym e) ∙ sym a ∙ b
 
-    module _ (sound : bad ≡ false) {most : ℕ} {above : Bool} (m : most ≡ maximum r) (b : above ≡ any_above most levels) where
-      past_record : {number : ℕ} → number ≡ first from_levels → number ≡ first (pgm_refusals r levels out)
-      past_record e = rw (sym a ∙ sound) e
-
-      above_is : {found : Bool} → above ≡ found → any_above (maximum r) levels ≡ found
-      above_is e = ap (λ n. any_above n levels) (sym m) ∙ sym b ∙ e
-
+    module _ {above : Bool} (a : above ≡ any_above h.maximum levels) where
       pub refuse_level : above ≡ true → 8 ≡ first (pgm_refusals r levels out)
-      refuse_level e = past_record (rw (above_is e))
+      refuse_level b = rw (sound, above_is a b)
 
       module _ (within : above ≡ false) where
-        past_levels : {number : ℕ} → number ≡ first from_count → number ≡ first (pgm_refusals r levels out)
-        past_levels e = past_record (rw (above_is within) e)
-
         pub refuse_count : length levels ≢ r.height * r.width → 10 ≡ first (pgm_refusals r levels out)
-        refuse_count n = past_levels (rw (ne_eqb (length levels) (r.height * r.width) n))
+        refuse_count n = rw (sound, above_is a within, ne_eqb (length levels) (r.height * r.width) n)
 
-        module _ (c : length levels ≡ r.height * r.width) {all size : ℕ} (d : all ≡ due r)
-            (s : size ≡ length (pgm_text r.width r.height most r.rows all levels)) where
-          past_count : {number : ℕ} → number ≡ first from_room → number ≡ first (pgm_refusals r levels out)
-          past_count e = past_levels (rw (eq-eqb (length levels) (r.height * r.width) c) e)
-
+        module _ (c : length levels ≡ r.height * r.width) {size : ℕ} (s : size ≡ length (picture_text h levels)) where
           size_is : size ≡ length (picture r levels)
-          size_is = s ∙ ap₂ (λ n k. length (pgm_text r.width r.height n r.rows k levels)) m d
+          size_is = s ∙ ap (λ (h : Header). length (picture_text h levels)) e
 
           pub refuse_room : length out < size → 11 ≡ first (pgm_refusals r levels out)
-          refuse_room l = past_count (rw (lt-ltb (length out) (length (picture r levels)) (rw size_is at l)))
+          refuse_room l = rw (
+            sound,
+            above_is a within,
+            eq-eqb (length levels) (r.height * r.width) c,
+            lt-ltb (length out) (length (picture r levels)) (rw size_is at l),
+          )
 
           module _ (l : size ≤ length out) where
             past_room : {number : ℕ} → number ≡ first from_rows → number ≡ first (pgm_refusals r levels out)
-            past_room e = past_count (rw (le-ltb (length out) (length (picture r levels)) (rw size_is at l)) e)
+            past_room f = rw (
+              sound,
+              above_is a within,
+              eq-eqb (length levels) (r.height * r.width) c,
+              le-ltb (length out) (length (picture r levels)) (rw size_is at l),
+            ) f
 
-            pub refuse_rows : r.rows ≢ all → 13 ≡ first (pgm_refusals r levels out)
-            refuse_rows n = past_room (rw (ne_eqb r.rows (due r) (λ e. n (e ∙ sym d))))
+            pub refuse_rows : h.done ≢ h.due → 13 ≡ first (pgm_refusals r levels out)
+            refuse_rows n = past_room (rw (ne_eqb r.rows (due r) (rw e at n)))
 
-            pub accept_picture : r.rows ≡ all → 0 ≡ first (pgm_refusals r levels out)
-            accept_picture e = past_room (rw (eq-eqb r.rows (due r) (e ∙ d)))
+            pub accept_picture : h.done ≡ h.due → 0 ≡ first (pgm_refusals r levels out)
+            accept_picture d = past_room (rw (eq-eqb r.rows (due r) (rw e at d)))
 
   -- what an accepted call may rely on: each of its refusals was found not to apply
   pub picture_accepted : first (pgm_refusals r levels out) ≡ 0
@@ -101,14 +98,6 @@ module _ (r : Record) (levels out : List ℕ) where
         not-false (is_done r) f.0,
       )
 
-  pub picture_refuses : (number : ℕ) → number ≢ 0 → number ≡ first (pgm_refusals r levels out)
-      → WritesPgm r levels out number (0, out)
-  picture_refuses number n e = refuses number n e
-
-  pub picture_accepts : first (pgm_refusals r levels out) ≡ 0 → (size : ℕ) (after : List ℕ) → size ≡ length (picture r levels)
-      → after ≡ begun (picture r levels) out → WritesPgm r levels out 0 (size, after)
-  picture_accepts z size after e f = accepts (size, after) z (λ i. (e i, f i))
-
   pub write_pgm_unique : (m n : ℕ) (x y : ℕ × List ℕ) → WritesPgm r levels out m x → WritesPgm r levels out n y
       → (m ≡ n) × (x ≡ y)
   write_pgm_unique = rule_unique
@@ -123,8 +112,8 @@ maximum_small r a = go (kind_of r) (sound r a)
     go Cropping s = omega arith
 
 module _ (r : Record) (levels : List ℕ) (a : record_bad r ≡ false) (size : length levels ≡ r.height * r.width) where
-  pub sound_picture : (most all : ℕ) → most ≡ maximum r → all ≡ due r → Picture r.width r.height most r.rows all levels
-  sound_picture most all m e =
+  pub sound_picture : IsPicture (header_of r) levels
+  sound_picture =
       let b = not_bad r a in
       let s = sound r b.0 in
       let h = s.area_high in
@@ -144,5 +133,5 @@ module _ (r : Record) (levels : List ℕ) (a : record_bad r ≡ false) (size : l
   -- and so its text is short, where no level is above the maximum
   pub picture_short : any_above (maximum r) levels ≡ false → length (picture r levels) ≤ 43 + 6 * (r.height * r.width)
   picture_short b =
-      text_bound r.width r.height (maximum r) r.rows (due r) levels (sound_picture (maximum r) (due r) refl refl)
+      text_bound r.width r.height (maximum r) r.rows (due r) levels sound_picture
       (within_small (maximum r) (maximum_small r (not_bad r a).0) levels b)

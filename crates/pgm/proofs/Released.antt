@@ -93,13 +93,13 @@ pgm_unfinished_refused r e levels out z = true≢false (sym (picture_accepted r 
 
 pub pgm_none_released : PgmNoneReleased
 pgm_none_released r levels started n l lent out size within room =
-    sym (refuse_rows (with_rows r n) lent out refl (started_sound r levels started n (omega arith)) refl refl within size refl refl
-    room (λ e. omega arith))
+    sym (refuse_rows (with_rows r n) lent out (started_sound r levels started n (omega arith)) refl refl within size refl room
+    (λ e. omega arith))
 
 -- A FINISHED RUN
 pub pgm_released : PgmReleased
 pgm_released r levels started out room =
     let whole = with_rows r (due r) in
     let given = collected r (finished r levels) in
-    sym (accept_picture whole given out refl (started_sound r levels started (due r) (omega arith)) refl refl
-    (levels_within r levels started) (collected_length r (finished r levels)) refl refl room refl)
+    sym (accept_picture whole given out (started_sound r levels started (due r) (omega arith)) refl refl
+    (levels_within r levels started) (collected_length r (finished r levels)) refl room refl)

@@ -8,11 +8,16 @@ use Rattle.run.specs.declared.Record.{Record}
 use Rattle.run.specs.Kinds.{kind_of, by_kind}
 use Rattle.run.specs.Records.{due, record_bad}
 use Rattle.run.specs.Continuing.{is_done}
+use Rattle.pgm.specs.declared.Header.{Header}
 use Rattle.pgm.specs.PgmText.{pgm_text}
 
 -- the larger frame side for a plain erosion, R + 1 for a dilation, 65,535 for a cropped sheet's erosion
 abbrev pub maximum : Record → ℕ
 maximum r = by_kind (kind_of r) (max r.width r.height) (r.cap + 1) none
+
+-- what the lines before the levels state
+abbrev pub header_of : Record → Header
+header_of r = record { done = r.rows; due = due r; width = r.width; height = r.height; maximum = maximum r }
 
 abbrev pub picture : Record → List ℕ → List ℕ
 picture r levels = pgm_text r.width r.height (maximum r) r.rows (due r) levels

@@ -8,7 +8,7 @@ ghost use Rattle.decimal.specs.Numbers.{digits};
 ghost use Rattle.pgm.specs.PgmText.{stays, parting, column_after, level_row, frame_row, levels_text};
 ghost use Rattle.text.specs.Writing.{begun, Wrote};
 ghost use Rattle.basics.specs.Limits.{longest_side};
-ghost use Rattle.pgm.specs.Writing.{levels_size, level_end, header_text, picture_text, SmallHeader, IsPicture};
+ghost use Rattle.pgm.specs.Writing.{levels_size, header_text, picture_text, SmallHeader, IsPicture};
 
 // The characters of a line, its end not counted.
 const LINE_WIDTH: usize = 70;
@@ -21,13 +21,6 @@ pub struct Header {
     pub width: usize,
     pub height: usize,
     pub maximum: usize,
-}
-
-// A level has 16 bits.
-fn wide(level: u16) -> usize
-    ensures { (result ≡ level) × (result < level_end) }
-{
-    level as usize
 }
 
 // Whether a number of `size` digits stays on a line of `column` characters, as long as the sum fits.

@@ -50,8 +50,9 @@ module _ (width height : ℕ) (sheet : List ℕ) (s : SoundSheet width height sh
     starts = accepts (run, start) start_accepted refl
 
     pub start_gives : {number : ℕ} {r : Record} {after : List ℕ} → StartsErosion width height sheet 3 cross lent number (r, after)
-        → (r ≡ run) × (after ≡ start)
-    start_gives a = let q = a.accepted (a.refusal ∙ start_accepted) in (ap (λ t. t.0) q, ap (λ t. t.1) q)
+        → (number ≡ 0) × ((r ≡ run) × (after ≡ start))
+    start_gives a =
+        let z = a.refusal ∙ start_accepted in let q = a.accepted z in (z, (ap (λ t. t.0) q, ap (λ t. t.1) q))
 
   unfoldable pub cross_started : Started run start
   cross_started = erosion width height sheet 3 cross (replicate (height * width) 0)
@@ -67,7 +68,7 @@ module _ (width height : ℕ) (sheet : List ℕ) (s : SoundSheet width height sh
   pub continue_gives : {begun : Record} {levels : List ℕ} → (begun ≡ run) × (levels ≡ start)
       → {number : ℕ} {r : Record} {done : Bool} {after : List ℕ} {lowered : ℕ}
       → Continues begun levels most_rows number ((r, done, after), lowered)
-      → (r ≡ with_rows run (due run)) × (after ≡ finished run start)
+      → (number ≡ 0) × ((r ≡ with_rows run (due run)) × (after ≡ finished run start))
   continue_gives {begun} {levels} e {number} {r} {done} {after} {lowered} b =
       let a = subst (λ x. Continues x start most_rows number ((r, done, after), lowered)) e.0
       (subst (λ x. Continues begun x most_rows number ((r, done, after), lowered)) e.1 b) in
@@ -75,8 +76,11 @@ module _ (width height : ℕ) (sheet : List ℕ) (s : SoundSheet width height sh
       (omega arith) in
       let q = a.accepted (a.refusal ∙ sym z) in
       let n : 0 + min most_rows (due run - 0) ≡ due run = let m = all_rows in omega arith in (
-        ap (λ t. t.0.0) q ∙ ap (with_rows run) n,
-        ap (λ t. t.0.2) q ∙ ap (λ k. scan_rows (area_of run) 0 k start) all_rows,
+        a.refusal ∙ sym z,
+        (
+          ap (λ t. t.0.0) q ∙ ap (with_rows run) n,
+          ap (λ t. t.0.2) q ∙ ap (λ k. scan_rows (area_of run) 0 k start) all_rows,
+        ),
       )
 
   -- COLLECTING
@@ -89,7 +93,7 @@ module _ (width height : ℕ) (sheet : List ℕ) (s : SoundSheet width height sh
 
   pub collect_gives : {r : Record} {levels : List ℕ} → (r ≡ with_rows run (due run)) × (levels ≡ finished run start)
       → (room : List ℕ) → length room ≡ height * width → {number : ℕ} {after : List ℕ}
-      → Collects r levels room number after → after ≡ cross_levels width height sheet
+      → Collects r levels room number after → (number ≡ 0) × (after ≡ cross_levels width height sheet)
   collect_gives {r} {levels} q room e {number} {after} c =
       let a = subst (λ x. Collects x (finished run start) room number after) q.0
       (subst (λ x. Collects r x room number after) q.1 c) in
@@ -97,4 +101,4 @@ module _ (width height : ℕ) (sheet : List ℕ) (s : SoundSheet width height sh
       let b = started_sound run start cross_started (due run) (omega arith) in
       let z : first (collect_refusals whole (finished run start) room) ≡ 0 =
       rw (b, w, eq-eqb (length room) (height * width) e, eq-eqb (due run) (due run) refl) in
-      a.accepted (a.refusal ∙ z) ∙ collected_rows
+      (a.refusal ∙ z, a.accepted (a.refusal ∙ z) ∙ collected_rows)

@@ -5,9 +5,11 @@ use native.Mathlib.Nat.{mul_comm, mul-le-mul}
 use native.Mathlib.Omega.{arith}
 use mathlib.Core.Path.{◌≡◌, sym, subst, ◌∙◌}
 use mathlib.Core.List.{List}
-use lib.ListN.{length, take}
-use lib.Seq.{length-take-le}
+use lib.ListN.{length}
 use borrow.Author.Tests.{lt-ltb, le-ltb}
+use Rattle.std.specs.Prelude.{Result}
+use Rattle.basics.specs.declared.refusal.Refusal.{Refusal}
+use Rattle.basics.specs.Refusals.{number, value_or}
 use Rattle.run.proofs.Started.{started_sound}
 use Rattle.basics.specs.Limits.{longest_side}
 use Rattle.sheet.proofs.FrameLaws.{frame_sides, sheet_accepted}
@@ -22,16 +24,13 @@ use Rattle.pgm.specs.WritePgm.{picture, WritesPgm}
 use Rattle.pgm.proofs.FinishedLaws.{picture_short}
 use Rattle.pgm.proofs.Released.{collected_length, levels_within, pgm_released}
 use Rattle.printing.specs.Printing.{most_pixels, text_room, refused_text, cross_run, cross_levels, sheet_text}
-use Rattle.printing.specs.Steps.{Prints, SoundSheet}
+use Rattle.printing.specs.Steps.{Prints, PrintsOr, SoundSheet}
+use Rattle.printing.proofs.RefusedLaws.{prints_taken}
 use Rattle.printing.proofs.CrossLaws.{cross_started}
 
 -- a text at the front of a buffer that has room for it
 front_prints : (text buffer : List ℕ) → length text ≤ length buffer → Prints text (length text) (begun text buffer)
 front_prints text buffer l = let a = length_begun text buffer l in (omega arith, take_begun text buffer)
-
-pub prints_as : (size : ℕ) (buffer : List ℕ) {text other : List ℕ} → text ≡ other → Prints text size buffer
-    → Prints other size buffer
-prints_as size buffer e p = (p.0, p.1 ∙ e)
 
 module _ (width height : ℕ) (sheet : List ℕ) where
   pub too_many : most_pixels < width * height → refused_text 10 ≡ sheet_text width height sheet
@@ -66,22 +65,19 @@ module _ (width height : ℕ) (sheet : List ℕ) where
       fits : length (picture whole levels) ≤ length out
       fits = let t = text_short in omega arith
 
-      pub picture_prints : {r : Record} {collected : List ℕ} → (r ≡ whole) × (collected ≡ levels) → {number size : ℕ}
-          {after : List ℕ} → WritesPgm r collected out number (size, after) → Prints (sheet_text width height sheet) size after
-      picture_prints {r} {collected} e {number} {size} {after} b =
-          let a = subst (λ x. WritesPgm x levels out number (size, after)) e.0
-          (subst (λ x. WritesPgm r x out number (size, after)) e.1 b) in
-          let z = pgm_released (cross_run width height) start (cross_started width height sheet s) out fits in
-          let q = a.accepted (a.refusal ∙ z) in
+      pub picture_prints : {r : Record} {collected : List ℕ} → (r ≡ whole) × (collected ≡ levels)
+          → (result : Result ℕ Refusal) (after : List ℕ) → WritesPgm r collected out (number result) (value_or 0 result, after)
+          → PrintsOr (sheet_text width height sheet) result out after
+      picture_prints {r} {collected} e result after b =
+          let a = subst (λ x. WritesPgm x levels out (number result) (value_or 0 result, after)) e.0
+          (subst (λ x. WritesPgm r x out (number result) (value_or 0 result, after)) e.1 b) in
+          let z = a.refusal ∙ pgm_released (cross_run width height) start (cross_started width height sheet s) out fits in
           let p = front_prints (picture whole levels) out fits in
-          prints_as size after (few l) (subst (λ x. Prints (picture whole levels) x.0 x.1) (sym q) p)
+          let q = subst (λ x. Prints (picture whole levels) x.0 x.1) (sym (a.accepted z)) p in
+          prints_taken _ out after result z (q.0, q.1 ∙ few l)
 
--- the parts lent for a sheet of so many pixels
+-- the pixels of a sound sheet
 pub pixels_fit : (width height : ℕ) (sheet : List ℕ) → SoundSheet width height sheet → width * height ≤ longest_side * longest_side
 pixels_fit width height sheet s =
     let f = frame_sides width height (sheet_accepted width height sheet s).0 in
     mul-le-mul f.0.1 f.1.1
-
-pub part_length : (width height : ℕ) (buffer : List ℕ) → width * height ≤ most_pixels → most_pixels ≤ length buffer
-    → length (take (width * height) buffer) ≡ height * width
-part_length width height buffer l b = length-take-le (width * height) buffer (omega arith) ∙ mul_comm width height

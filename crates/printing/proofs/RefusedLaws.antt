@@ -1,15 +1,19 @@
--- The text of a refusal: the word with its number, and LF after them.
+-- The text of a refusal: the word with its number, and LF after them. And a result that is no refusal has a value.
 use Prim.Native.Nat.{ℕ, ◌+◌, ◌≤◌, ◌<◌}
 use native.Mathlib.Omega.{arith}
-use mathlib.Core.Path.{ap₂, ◌∙◌}
+use mathlib.Core.Path.{◌≡◌, refl, ap₂, ◌∙◌}
 use mathlib.Core.List.{List, [], ◌∷◌, ◌++◌, append_assoc}
 use lib.ListN.{length, take, length-append}
+use Rattle.std.specs.Prelude.{Result, Ok, Err, IsOk}
+use Rattle.basics.specs.declared.refusal.Refusal.{Refusal}
+use Rattle.basics.specs.Refusals.{number, value_or}
+use Rattle.basics.proofs.RefusalLaws.{number_positive}
 use Rattle.decimal.specs.Numbers.{digits}
 use Rattle.decimal.proofs.NumberLaws.{length_below}
 use Rattle.text.specs.Writing.{Wrote}
 use Rattle.text.proofs.WroteLaws.{room_first, room_second, wrote_both, wrote_length, wrote_front, take_begun}
 use Rattle.printing.specs.Printing.{text_room, refused_text}
-use Rattle.printing.specs.Steps.{Prints}
+use Rattle.printing.specs.Steps.{Prints, PrintsOr}
 
 -- "refused" and a blank
 abbrev word : List ℕ
@@ -44,3 +48,13 @@ module _ (number : ℕ) (out : List ℕ) (pre : (number < 4294967296) × (text_r
           ap₂ take f.0 f.1 ∙ take_begun ((word ++ digits number) ++ (10 ∷ [])) out
               ∙ append_assoc word (digits number) (10 ∷ []),
         )
+
+-- where the number is that of acceptance
+pub taken : {A : Type 0} (result : Result A Refusal) → number result ≡ 0 → IsOk result
+taken (Ok value) z = refl
+taken (Err refusal) z = absurd (number_positive refusal z)
+
+pub prints_taken : (text before after : List ℕ) (result : Result ℕ Refusal) → number result ≡ 0
+    → Prints text (value_or 0 result) after → PrintsOr text result before after
+prints_taken text before after (Ok size) z p = p
+prints_taken text before after (Err refusal) z p = absurd (number_positive refusal z)

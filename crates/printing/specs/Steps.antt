@@ -1,12 +1,19 @@
 -- What the steps of printing ask and leave behind.
-use Rattle.std.specs.Prelude.{ℕ, ◌≤◌, ◌≡◌, List, length, take}
-use Rattle.basics.specs.Refusals.{first}
+use Rattle.std.specs.Prelude.{ℕ, ◌≤◌, ◌≡◌, List, length, take, Result, MatchResult}
+use Rattle.basics.specs.declared.refusal.Refusal as declared
+use Rattle.basics.specs.Refusals.{first, number_of}
 use Rattle.sheet.specs.Sheets.{sheet_refusals}
-use Rattle.printing.specs.Printing.{most_pixels, text_room}
+use Rattle.printing.specs.Printing.{most_pixels, text_room, refused_text}
 
 -- a text stands at the front of a buffer, and `size` is its length
 abbrev pub Prints : List ℕ → ℕ → List ℕ → Type 0
 Prints text size buffer = (size ≤ length buffer) × (take size buffer ≡ text)
+
+-- it does, or it is the text of the refusal that is given, and the buffer is as it was
+abbrev pub PrintsOr : List ℕ → Result ℕ declared.Refusal → List ℕ → List ℕ → Type 0
+PrintsOr text result before after =
+    MatchResult result (λ size. Prints text size after)
+    (λ refusal. (refused_text (number_of refusal) ≡ text) × (after ≡ before))
 
 -- a sheet that nothing speaks against
 abbrev pub SoundSheet : ℕ → ℕ → List ℕ → Type 0

@@ -6,9 +6,11 @@ ghost use Rattle.run.specs.Records.{due};
 ghost use Rattle.run.specs.Continuing.{with_rows};
 ghost use Rattle.printing.specs.Printing.{input_end, most_pixels, text_room, refused_text, cross_run, cross_levels, sheet_text};
 ghost use Rattle.printing.specs.Printing.{printed};
-ghost use Rattle.printing.specs.Steps.{Prints, SoundSheet, Rooms};
+ghost use Rattle.printing.specs.Steps.{Prints, PrintsOr, SoundSheet, Rooms};
 
-use run::Record;
+use basics::Refusal;
+use pbm::Frame;
+use run::{Input, Record};
 
 // Inputs from here on are refused.
 pub const INPUT_END: usize = 65536;
@@ -28,70 +30,62 @@ fn write_refused(number: usize, out: &mut [u8]) -> usize
     text::write_bytes(b"\n", out, end)
 }
 
-// Erodes a sheet with the cross, all rows at once, and collects its levels; gives the run's record.
-fn run_erosion(
-    width: usize,
-    height: usize,
-    sheet: &[u8],
-    levels: &mut [u16],
-    collected: &mut [u16],
-) -> Record
-    requires { SoundSheet width height sheet.now ×
-        ((length levels.old ≡ height * width) × (length collected.old ≡ height * width)) }
-    ensures { (result ≡ with_rows (cross_run width height) (due (cross_run width height))) ×
-        (collected.new ≡ cross_levels width height sheet.now) }
+// Erodes a sheet with the cross, all rows at once, and collects its levels; gives the run's record. No call of it refuses.
+fn run_erosion(frame: Frame, sheet: &[u8], levels: &mut [u16], collected: &mut [u16]) -> Record
+    requires { SoundSheet frame.width frame.height sheet.now ×
+        ((length levels.old ≡ frame.height * frame.width) × (length collected.old ≡ frame.height * frame.width)) }
+    ensures { (result ≡ with_rows (cross_run frame.width frame.height) (due (cross_run frame.width frame.height))) ×
+        (collected.new ≡ cross_levels frame.width frame.height sheet.now) }
 {
+    let input = Input {
+        width: frame.width,
+        height: frame.height,
+        side: 3,
+    };
     let cross = [0u8, 1, 0, 1, 1, 1, 0, 1, 0];
-    let started = run::starting::start_erosion(width, height, sheet, 3, &cross, levels);
-    let begun = started.run;
-    let continued = run::continuing::continue_run(begun, levels, basics::MOST_ROWS);
-    let done = continued.run;
-    let _refusal = run::pictures::collect(done, levels, collected);
-    done
+    let begun = run::starting::start_erosion(input, sheet, &cross, levels).unwrap();
+    let continued = run::continuing::continue_run(begun, levels, basics::MOST_ROWS).unwrap();
+    run::pictures::collect(continued.run, levels, collected).unwrap();
+    continued.run
 }
 
-// Erodes a sheet of few enough pixels, and writes the picture of its levels.
-fn print_levels(
-    width: usize,
-    height: usize,
-    sheet: &[u8],
-    levels: &mut [u16],
-    collected: &mut [u16],
-    out: &mut [u8],
-) -> usize
-    requires { SoundSheet width height sheet.now × ((length levels.old ≡ height * width) ×
-        ((length collected.old ≡ height * width) × ((width * height ≤ most_pixels) × (text_room ≤ length out.old)))) }
-    ensures { Prints (sheet_text width height sheet.now) result out.new }
-{
-    let run = run_erosion(width, height, sheet, levels, collected);
-    let written = pgm::finished::write_pgm(run, collected, out);
-    written.length
-}
-
-// Prints a sound sheet: the picture of its levels, or the refusal of too many pixels.
+// Writes the picture of a sound sheet's levels; refusal 10 of too many pixels.
 fn print_sheet(
-    width: usize,
-    height: usize,
+    frame: Frame,
     sheet: &[u8],
     levels: &mut [u16],
     collected: &mut [u16],
     out: &mut [u8],
-) -> usize
-    requires { SoundSheet width height sheet.now × Rooms levels.old collected.old out.old }
-    ensures { Prints (sheet_text width height sheet.now) result out.new }
+) -> Result<usize, Refusal>
+    requires { SoundSheet frame.width frame.height sheet.now × Rooms levels.old collected.old out.old }
+    ensures { PrintsOr (sheet_text frame.width frame.height sheet.now) result out.old out.new }
 {
-    let count = width * height;
+    let count = frame.width * frame.height;
     if MOST_PIXELS < count {
-        return write_refused(10, out);
+        return Err(Refusal::LevelsLength);
     }
-    print_levels(
-        width,
-        height,
-        sheet,
-        &mut levels[..count],
-        &mut collected[..count],
-        out,
-    )
+    let collected = &mut collected[..count];
+    let run = run_erosion(frame, sheet, &mut levels[..count], collected);
+    pgm::finished::write_pgm(run, collected, out)
+}
+
+// Writes the picture of an input's levels; refusal 10 of too long an input, too.
+fn print_input(
+    input: &[u8],
+    sheet: &mut [u8],
+    levels: &mut [u16],
+    collected: &mut [u16],
+    out: &mut [u8],
+) -> Result<usize, Refusal>
+    requires { (input_end ≤ length sheet.old) × Rooms levels.old collected.old out.old }
+    ensures { PrintsOr (printed input.now) result out.old out.new }
+{
+    if INPUT_END <= input.len() {
+        return Err(Refusal::LevelsLength);
+    }
+    let frame = pbm::read_pbm(input, sheet)?;
+    let size = frame.height * sheet::row_bytes(frame.width);
+    print_sheet(frame, &sheet[..size], levels, collected, out)
 }
 
 // For the program: prints the erosion of an input to the front of `out`, and gives the text's length.
@@ -105,16 +99,8 @@ pub fn print_erosion(
     requires { (input_end ≤ length sheet.old) × Rooms levels.old collected.old out.old }
     ensures { (result ≤ length out.new) × (take result out.new ≡ printed input.now) }
 {
-    if INPUT_END <= input.len() {
-        return write_refused(10, out);
+    match print_input(input, sheet, levels, collected, out) {
+        Ok(length) => length,
+        Err(refusal) => write_refused(refusal.number() as usize, out),
     }
-    let found = pbm::read_pbm(input, sheet);
-    let refusal = found.refusal;
-    if refusal != 0 {
-        return write_refused(refusal as usize, out);
-    }
-    let width = found.width;
-    let height = found.height;
-    let size = height * sheet::row_bytes(width);
-    print_sheet(width, height, &sheet[..size], levels, collected, out)
 }

@@ -2,7 +2,6 @@
 use Prim.Native.Nat.{ℕ, ◌+◌, ◌≤◌}
 use native.Mathlib.Omega.{arith}
 use mathlib.Core.Path.{◌≡◌, sym, ap, ap₂, ◌∙◌}
-use mathlib.Core.Logic.{◌≢◌}
 use mathlib.Core.List.{List}
 use lib.IntN.{pos}
 use lib.ListN.{length, get_or, replicate}
@@ -10,7 +9,7 @@ use Rattle.basics.specs.Limits.{longest_side}
 use Rattle.basics.specs.Refusals.{first}
 use Rattle.basics.specs.Sums.{sum}
 use Rattle.basics.specs.Tables.{table}
-use Rattle.basics.proofs.RefusalLaws.{accepts, refuses}
+use Rattle.basics.proofs.RefusalLaws.{accepts}
 use Rattle.basics.proofs.SumLaws.{sum_same}
 use Rattle.basics.proofs.TableLaws.{length-table, get_or-table}
 use Rattle.grid.specs.Points.{at}
@@ -24,11 +23,10 @@ use Rattle.run.proofs.RecordLaws.{area_small}
 use Rattle.run.specs.declared.Input.{Input}
 use Rattle.filters.specs.Filters.{Buffers, foreground_of, element_of}
 use Rattle.filters.specs.Back.{Ready}
-use Rattle.filters.specs.declared.judging.Plan.{Plan}
 use Rattle.filters.specs.Plans.{start_refusals, first_record, first_levels}
 use Rattle.filters.proofs.FirstRuns.{first_size, first_ready}
 use Rattle.spectrum.specs.declared.Summary.{Summary}
-use Rattle.spectrum.specs.Spectrum.{summary_of, no_summary, spectrum_refusals, GivesSpectrum}
+use Rattle.spectrum.specs.Spectrum.{summary_of, spectrum_refusals, GivesSpectrum}
 use Rattle.spectrum.specs.Counting.{opening, HasLevels, FillsTable, IsTable}
 use Rattle.spectrum.proofs.LevelCounts.{points_of, counts_below}
 use Rattle.spectrum.proofs.Refusing.{Taken, taken}
@@ -45,12 +43,6 @@ counts_table width height entries level counts e long short wide high =
     let t = counts_below width height level entries in
     let a = area_small height width high wide in
     record { long = omega arith; short = omega arith; adds_up = omega arith }
-
--- a refusal, with everything as it was
-pub refused_kept : (input : Input) (sheet bytes : List ℕ) (lent : Buffers) {number given : ℕ} {summary : Summary} → number ≢ 0
-    → number ≡ first (spectrum_refusals input sheet bytes lent) → given ≡ number → summary ≡ no_summary
-    → GivesSpectrum input sheet bytes lent given (lent, summary)
-refused_kept input sheet bytes lent {number} n e g s = rw (g, s) (refuses number n e)
 
 module _ (input : Input) (sheet bytes : List ℕ) (lent : Buffers) (z : first (spectrum_refusals input sheet bytes lent) ≡ 0) where
   pub fit : Taken input sheet bytes (length lent.first) (length lent.second) (length lent.out)

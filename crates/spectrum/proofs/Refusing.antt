@@ -1,17 +1,16 @@
 -- What the call is refused for: the work buffers as those of opening levels, then the table's length, and last a blank sheet.
 use Prim.Native.Nat.{ℕ, ◌+◌, max}
 use native.Mathlib.Omega.{arith}
-use mathlib.Core.Path.{◌≡◌, ap, ◌∙◌}
-use mathlib.Core.Bool.{true, false, not}
+use mathlib.Core.Path.{◌≡◌, ◌∙◌}
+use mathlib.Core.Bool.{false, not}
 use mathlib.Core.Logic.{◌≢◌}
 use mathlib.Core.List.{List, [], ◌∷◌, ◌++◌}
 use lib.Dec.{eqb}
-use borrow.Author.Tests.{eq-eqb, ne_eqb, eqb-true, not-false}
+use borrow.Author.Tests.{eqb-true, not-false}
 use Rattle.basics.specs.Refusals.{Refusal, first}
-use Rattle.basics.proofs.RefusalLaws.{judged_first, judged_next, first_both, passed}
+use Rattle.basics.proofs.RefusalLaws.{judged_first, first_both, passed}
 use Rattle.run.proofs.Starts.{Judged, judged}
 use Rattle.run.specs.declared.Input.{Input}
-use Rattle.filters.specs.declared.judging.Plan.{Plan}
 use Rattle.filters.specs.Plans.{work_refusals}
 use Rattle.filters.proofs.Refusing.{opening_list, start_taken, WorkTaken, work_taken}
 use Rattle.spectrum.specs.Spectrum.{is_blank, refusals_by}
@@ -27,11 +26,6 @@ module _ (input : Input) (sheet bytes : List ℕ) (one two entries : ℕ) where
   abbrev room : List Refusal
   room = (11, not (eqb entries (max input.width input.height + 1))) ∷ last
 
-  -- judged by a plan that asks for opening levels
-  pub judged_work : {plan : Plan} → plan ≡ opening → {number : ℕ}
-      → number ≡ first (work_refusals input sheet bytes plan one two) → number ≡ first work
-  judged_work p e = e ∙ ap (λ plan. first (work_refusals input sheet bytes plan one two)) p
-
   -- the call's own list has one entry of 10, and neither 8 nor 9
   own : first (work ++ room) ≡ first (refusals_by input sheet bytes one two entries)
   own = opening_list input sheet bytes 0 false one two room
@@ -45,19 +39,6 @@ module _ (input : Input) (sheet bytes : List ℕ) (one two entries : ℕ) where
         let w = work_taken input sheet bytes opening one two z in
         judged input.width input.height sheet input.side bytes
         (start_taken input sheet bytes opening one w.start).common
-
-    module _ {larger : ℕ} (q : larger ≡ max input.width input.height) where
-      pub refused_table : entries ≢ larger + 1 → 11 ≡ first (refusals_by input sheet bytes one two entries)
-      refused_table n = judged_next work room tt z (rw (← q, ne_eqb entries (larger + 1) n)) ∙ own
-
-      module _ (fits : entries ≡ larger + 1) where
-        pub refused_blank : true ≡ is_blank input.width input.height sheet
-            → 14 ≡ first (refusals_by input sheet bytes one two entries)
-        refused_blank e = judged_next work room tt z (rw (← q, eq-eqb entries (larger + 1) fits, ← e)) ∙ own
-
-        pub none_refused : false ≡ is_blank input.width input.height sheet
-            → 0 ≡ first (refusals_by input sheet bytes one two entries)
-        none_refused e = judged_next work room tt z (rw (← q, eq-eqb entries (larger + 1) fits, ← e)) ∙ own
 
   -- what an accepted call has
   pub record Taken : Type 0 where

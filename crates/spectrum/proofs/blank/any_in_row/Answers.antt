@@ -1,5 +1,4 @@
 use Rattle.spectrum.proofs.BlankLaws.{some_turn}
-use Rattle.basics.specs.Sums.{sum}
 use Rattle.basics.proofs.SumLaws.{sum_none}
 use Rattle.sheet.specs.Sheets.{pixel}
 use mathlib.Core.Path.{sym, ap}

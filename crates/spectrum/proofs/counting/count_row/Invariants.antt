@@ -6,7 +6,7 @@ use mathlib.Core.Path.{◌≡◌}
 use lib.ListN.{get_or}
 use Rattle.spectrum.proofs.counting.count_row.Given as goal
 
-abbrev pub invariant-loop-level : goal.invariant-loop-level
-invariant-loop-level l =
-    (l.count ≤ l.level-index) ×
-    (l.count ≡ sum l.level-index (λ k. held_between l.bounds.low l.bounds.high (get_or l.levels k 0)))
+abbrev pub invariant-loop-i : goal.invariant-loop-i
+invariant-loop-i l =
+    (l.count ≤ l.i) ×
+    (l.count ≡ sum l.i (λ k. held_between l.bounds.low l.bounds.high (get_or l.levels k 0)))
