@@ -20,6 +20,7 @@ pub fn finish(run: Record, levels: &mut [u16])
 }
 
 // The run of the other kind, on all of the area.
+#[tactic(auto, using(run::proofs::RecordLaws::sounds))]
 pub fn back_run(run: Record) -> Record
     requires { foreign run ≡ false }
     ensures { result ≡ back run }
@@ -29,10 +30,11 @@ pub fn back_run(run: Record) -> Record
     } else {
         kinds::EROSION
     };
+    let frame = records::frame_of(run);
     Record {
         kind,
-        width: records::area_width(run),
-        height: records::area_height(run),
+        width: frame.area_width(),
+        height: frame.area_height(),
         cap: 0,
         rows: 0,
         edge: kinds::BACKGROUND,

@@ -6,7 +6,7 @@ use native.Mathlib.Nat.{zero-add, zero-mul, add-mul, one-mul, suc-mul, mul-le-mu
 use native.Mathlib.Decide.{dec_lt}
 use native.Mathlib.Omega.{arith}
 use mathlib.Core.List.{List}
-use mathlib.Core.Path.{◌≡◌, refl, sym, ap, ap₂, ◌∙◌, fun_ext}
+use mathlib.Core.Path.{◌≡◌, refl, sym, ap, ap₂, ◌∙◌}
 use lib.ListN.{length, get_or, set, length-set}
 use lib.Seq.{get_or-set_same, get_or-set_other}
 use Rattle.basics.specs.Tables.{raster}
@@ -95,10 +95,6 @@ pub row_end : (width height row : ℕ) → row < height → row * width + width 
 row_end width height row l = let m = mul-le-mul_right width l in let e = suc-mul row width in omega arith
 
 module _ {width height margin : ℕ} {levels : List ℕ} (given : Canvas width height margin levels) where
-  -- levels of the same length serve as well
-  pub canvas_after : {after : List ℕ} → length after ≡ length levels → Canvas width height margin after
-  canvas_after e = record { wide = given.wide; high = given.high; room = e ∙ given.room }
-
   -- a row of the area is in the levels, and its places are small numbers
   pub row_room : (row : ℕ) → row < canvas_side height margin
       → (row * canvas_side width margin + canvas_side width margin ≤ length levels) × (length levels ≤ 4096 * 4096)
@@ -112,9 +108,3 @@ module _ {width height margin : ℕ} {levels : List ℕ} (given : Canvas width h
   pub frame_room : (row : ℕ) → row < height
       → ((row + margin) * canvas_side width margin + margin + width ≤ length levels) × (length levels ≤ 4096 * 4096)
   frame_room row l = let s = row_room (row + margin) (omega arith) in (omega arith, s.1)
-
--- levels counted from the margin on are those of the frame
-pub from_margin : (levels : List ℕ) (start margin : ℕ)
-    → ◌≡◌ {A = ℕ → ℕ} (λ col. get_or levels (start + margin + col) 0) (λ col. get_or levels (start + (col + margin)) 0)
-from_margin levels start margin =
-    fun_ext (λ col. ap (λ k. get_or levels k 0) (let e : start + margin + col ≡ start + (col + margin) = omega arith in e))

@@ -5,9 +5,8 @@ ghost use Rattle.scan.specs.Scan.{scan_rows, rows_lowered};
 ghost use Rattle.run.specs.Records.{area_width, area_height, due, area_of, foreign};
 ghost use Rattle.run.specs.Continuing.{continue_refusals, answer_of, Continues};
 
-use super::{Record, kinds, records};
+use super::{Record, records};
 use basics::Refusal;
-use row::Area;
 
 // What a continue answers: the new record, whether all rows are done, and how many points its rows lowered.
 #[derive(Clone, Copy)]
@@ -41,14 +40,8 @@ fn work_rows(run: Record, levels: &mut [u16], count: usize) -> usize
     ensures { (levels.new ≡ scan_rows (area_of run) run.rows count levels.old) ×
         (result ≡ rows_lowered (area_of run) run.rows count levels.old) }
 {
-    let area = Area {
-        width: records::area_width(run),
-        height: records::area_height(run),
-        beyond: kinds::beyond_of(run),
-        cells: kinds::scan_cells(run),
-    };
     let reach = (run.side - 1) / 2;
-    scan::scan_rows(levels, &area, run.rows, count, reach)
+    scan::scan_rows(levels, &records::area_of(run), run.rows, count, reach)
 }
 
 // Public: works the allowance or what is due, the lesser. Refusals 1, 10, 12.

@@ -19,7 +19,8 @@ pub struct Input {
 
 // A run's record. Kind 1 is an erosion, 2 a dilation; the cells are the element's 49 in one flat row, as given. The edge rule is 0
 // where background lies beyond the frame and 1 where foreground does, as for an erosion of a cropped sheet; a plain erosion has no
-// cap, which is then 0. Kept: kind and edge rule as numbers, since every call takes a record that no start gives too (`foreign_exact`).
+// cap, which is then 0.
+// Kept: the kind and the edge rule are numbers, since callers have records in memory, and one that no start gives is answered.
 #[derive(Clone, Copy)]
 pub struct Record {
     pub kind: u8,

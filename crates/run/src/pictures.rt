@@ -1,4 +1,5 @@
-// Pictures of a finished run: its levels collected, and the sheet that it holds at a size; and how both, and a look, are judged and packed.
+// Pictures of a finished run: its levels collected, and the sheet that it holds at a size; and how both, and a look, are judged and
+// packed.
 ghost use Rattle.std.specs.Prelude.{◌≡◌, false, ◌+◌, ◌*◌, ◌/◌, ◌≤◌, length, get_or};
 ghost use Rattle.basics.specs.Limits.{longest_side};
 ghost use Rattle.basics.specs.Refusals.{first, number};
@@ -65,6 +66,7 @@ fn check_view(
 }
 
 // Public: fills `out` with the frame's levels of a finished run. Refusals 1, 10, 11, 13.
+#[tactic(auto, using(crate::proofs::RecordLaws::not_foreign, crate::proofs::RecordLaws::sounds))]
 pub fn collect(run: Record, levels: &[u16], out: &mut [u16]) -> Result<(), Refusal>
     ensures { Collects run levels.now out.old (number result) out.new }
 {
@@ -147,6 +149,7 @@ pub fn check_provisional(
 }
 
 // That sheet, packed.
+#[tactic(auto, using(crate::proofs::RecordLaws::not_foreign, crate::proofs::RecordLaws::sounds))]
 pub fn pack_held(run: Record, levels: &[u16], size: usize, out: &mut [u8])
     requires { first (provisional_refusals run levels.now size out.old) ≡ 0 }
     ensures { out.new ≡ thresholded run levels.now size }

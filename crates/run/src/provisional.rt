@@ -6,8 +6,8 @@ ghost use Rattle.run.specs.Provisional.{ShowsProvisional};
 use super::{Record, pictures, records};
 use basics::Refusal;
 
-// Public: fills `out` with the packed sheet that a run's levels hold at a size, whatever rows are done, and answers whether all are,
-// so that the sheet is final. Refusals 1, 8, 10, 11.
+// Public: fills `out` with the packed sheet that a run's levels hold at a size, whatever rows are done, and answers whether all
+// are, so that the sheet is final. Refusals 1, 8, 10, 11.
 #[tactic(auto, using(crate::proofs::RecordLaws::not_foreign))]
 pub fn provisional(
     run: Record,

@@ -3,13 +3,14 @@ ghost use Rattle.std.specs.Prelude.{◌≡◌, true, false, ◌*◌, ◌^◌, �
 ghost use Rattle.basics.specs.Limits.{longest_side, highest_cap, most_rows};
 ghost use Rattle.basics.specs.Tables.{table};
 ghost use Rattle.element.specs.Elements.{is_side};
-ghost use Rattle.run.specs.Records.{margin_of, canvas_side, area_width, area_height, due, outside, any_outside, element_foreign};
+ghost use Rattle.run.specs.Records.{margin_of, canvas_side, area_of, due, outside, any_outside, element_foreign};
 ghost use Rattle.run.specs.Records.{kind_foreign, cap_foreign, foreign, record_bad, frame_of};
 ghost use Rattle.run.specs.Continuing.{levels_wrong, is_done};
 ghost use Rattle.run.specs.Patches.{Canvas, level_in};
 
 use super::kinds::Kind;
 use super::{Record, kinds};
+use row::Area;
 
 // A frame, and the margin of the canvas around it.
 #[derive(Clone, Copy)]
@@ -21,6 +22,7 @@ pub struct Frame {
 
 impl Frame {
     // The sides of the area: the frame's, with the margin on both sides.
+    // Kept: one method, as in frame.area_side(frame.width), would be no plainer.
     pub fn area_width(self) -> usize
         requires { canvas_side self.width self.margin ≤ 2 ^ 32 }
         ensures { result ≡ canvas_side self.width self.margin }
@@ -124,7 +126,7 @@ fn cap_foreign(run: Record) -> bool
 }
 
 // Whether no start gives the record, rows done aside.
-#[tactic(auto, using(sheet::proofs::FrameLaws::side_in, crate::proofs::RecordLaws::taken_side), unfolding(crate::specs::Records::foreign))]
+#[tactic(auto, using(crate::proofs::RecordLaws::parts), unfolding(crate::specs::Records::foreign))]
 fn record_foreign(run: Record) -> bool
     ensures { result ≡ foreign run }
 {
@@ -135,27 +137,28 @@ fn record_foreign(run: Record) -> bool
         || cap_foreign(run)
 }
 
-// The sides of the area.
-pub fn area_width(run: Record) -> usize
+// The area that a run works on.
+#[tactic(auto, using(crate::proofs::RecordLaws::sounds))]
+pub fn area_of(run: Record) -> Area
     requires { foreign run ≡ false }
-    ensures { (result ≡ area_width run) × ((1 ≤ result) × (result ≤ longest_side)) }
+    ensures { result ≡ area_of run }
 {
-    frame_of(run).area_width()
-}
-
-pub fn area_height(run: Record) -> usize
-    requires { foreign run ≡ false }
-    ensures { (result ≡ area_height run) × ((1 ≤ result) × (result ≤ longest_side)) }
-{
-    frame_of(run).area_height()
+    let frame = frame_of(run);
+    Area {
+        width: frame.area_width(),
+        height: frame.area_height(),
+        beyond: kinds::beyond_of(run),
+        cells: kinds::scan_cells(run),
+    }
 }
 
 // The rows due in all.
+#[tactic(auto, using(crate::proofs::RecordLaws::sounds))]
 pub fn rows_due(run: Record) -> usize
     requires { foreign run ≡ false }
     ensures { (result ≡ due run) × (result ≤ most_rows) }
 {
-    2 * area_height(run)
+    2 * frame_of(run).area_height()
 }
 
 // Whether all of them are done.
@@ -167,11 +170,13 @@ pub fn all_done(run: Record) -> bool
 }
 
 // Whether the levels lent are not one for each point of the area.
+#[tactic(auto, using(crate::proofs::RecordLaws::sounds))]
 pub fn levels_wrong(run: Record, levels: &[u16]) -> bool
     requires { foreign run ≡ false }
     ensures { result ≡ levels_wrong run levels.now }
 {
-    levels.len() != area_height(run) * area_width(run)
+    let frame = frame_of(run);
+    levels.len() != frame.area_height() * frame.area_width()
 }
 
 // Refusal 1: no start gives the record, or more rows are done than due.

@@ -233,8 +233,8 @@ pub fn start_dilation(
     )
 }
 
-// Public: starts the erosion of a cropped sheet, with foreground beyond the frame, its levels 1 on the frame's background and 65,535
-// elsewhere on the canvas. Refusals 2 to 10.
+// Public: starts the erosion of a cropped sheet, with foreground beyond the frame, its levels 1 on the frame's background and
+// 65,535 elsewhere on the canvas. Refusals 2 to 10.
 pub fn start_cropped(
     input: Input,
     sheet: &[u8],

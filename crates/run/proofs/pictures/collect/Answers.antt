@@ -1,29 +1,9 @@
 -- A sound record has a small area, which its levels cover.
 use Rattle.basics.proofs.RefusalLaws.{accepts}
-use Rattle.run.proofs.RecordLaws.{not_bad, area_small}
 use Rattle.run.proofs.PictureAnswers.{sound_record, area_canvas, is_collected, view_taken, collect_views}
 use Rattle.run.proofs.PictureAnswers.{collect_judged, picture_released}
-use native.Mathlib.Omega.{arith}
 use mathlib.Core.Path.{sym, ◌∙◌}
 use Rattle.run.proofs.pictures.collect.Goals as goal
-
-pub overflow_mul-run : goal.overflow_mul-run
-overflow_mul-run c =
-    let args = c.args in
-    let s = sound_record args.run (sym c.record_bad.ensures ∙ c.if-record_bad.false) in
-    let small = area_small args.run.height args.run.width s.high.1 s.wide.1 in
-    omega arith
-
-pub all_done-requires : goal.all_done-requires
-all_done-requires c = (not_bad c.args.run (sym c.record_bad.ensures ∙ c.if-record_bad.false)).0
-
-pub frame_of-requires : goal.frame_of-requires
-frame_of-requires c =
-    let s = sound_record c.args.run (sym c.record_bad.ensures ∙ c.if-record_bad.false) in
-    (s.side_is, s.cap_small)
-
-pub reading_of-requires : goal.reading_of-requires
-reading_of-requires c = (sound_record c.args.run (sym c.record_bad.ensures ∙ c.if-record_bad.false)).cap_small
 
 pub copy_frame-requires : goal.copy_frame-requires
 copy_frame-requires c =

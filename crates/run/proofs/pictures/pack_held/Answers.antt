@@ -3,19 +3,6 @@ use Rattle.run.proofs.PictureAnswers.{sound_record, area_canvas, size_small, is_
 use mathlib.Core.Path.{◌∙◌}
 use Rattle.run.proofs.pictures.pack_held.Goals as goal
 
-pub frame_of-requires : goal.frame_of-requires
-frame_of-requires c =
-    let args = c.args in
-    let s = sound_record args.run (provisional_taken args.run args.levels.now args.out.now args.size c.requires).0 in
-    (s.side_is, s.cap_small)
-
-pub bounds_of-requires : goal.bounds_of-requires
-bounds_of-requires c =
-    let args = c.args in
-    let taken = provisional_taken args.run args.levels.now args.out.now args.size c.requires in
-    let s = sound_record args.run taken.0 in
-    (s.cap_small, size_small s args.size taken.1)
-
 pub pack_frame-requires : goal.pack_frame-requires
 pack_frame-requires c =
     let args = c.args in
