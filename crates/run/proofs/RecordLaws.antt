@@ -3,7 +3,7 @@ use Prim.Native.Nat.{◌*◌, ℕ, ◌+◌, ◌-◌, ◌/◌, ◌%◌, ◌≤◌
 use native.Mathlib.Nat.{mul-le-mul}
 use native.Mathlib.Numerals.{add-one}
 use native.Mathlib.Omega.{arith}
-use mathlib.Core.Path.{◌≡◌, refl}
+use mathlib.Core.Path.{◌≡◌, refl, sym}
 use mathlib.Core.Bool.{Bool, true, false, not, cond, ◌||◌, true≢false}
 use mathlib.Core.Logic.{◌≢◌}
 use mathlib.Core.List.{List, ◌∷◌}
@@ -21,6 +21,7 @@ use Rattle.element.proofs.ElementLaws.{side_bounds}
 use Rattle.sheet.specs.Sheets.{is_side_out}
 use Rattle.sheet.proofs.FrameLaws.{side_in}
 use Rattle.run.specs.declared.Record.{Record}
+use Rattle.run.specs.declared.sound.Sound as declared
 use Rattle.run.specs.declared.kinds.Kind.TheVariants.{Eroding, Dilating, Cropping}
 use Rattle.run.specs.Kinds.{by_kind, erosion_kind, dilation_kind, background_beyond, foreground_beyond}
 use Rattle.run.specs.Records.{margin_of, margin, area_width, area_height, due, outside, any_outside, element_foreign}
@@ -250,6 +251,10 @@ sound r e =
       area_wide = fits.1;
       area_high = fits.2;
     }
+
+-- the record in one that was judged
+pub judged_sound : (s : declared.Sound) {r : Record} → s.run ≡ r → Sound r
+judged_sound s e = rw (sym e) (sound s.run s.taken)
 
 -- a record that is not refused
 pub not_bad : (r : Record) → record_bad r ≡ false → (foreign r ≡ false) × (r.rows ≤ due r)

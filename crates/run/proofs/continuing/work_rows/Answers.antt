@@ -10,35 +10,30 @@ use Rattle.run.proofs.continuing.work_rows.Goals as goal
 
 pub overflow_sub-reach : goal.overflow_sub-reach
 overflow_sub-reach c =
-    let args = c.args in
-    let pre = c.requires in
-    let s = sound args.run pre.0 in let b = side_bounds args.run.side s.side_is in omega arith
+    let run = c.args.sound.run in
+    let b = side_bounds run.side (sound run c.args.sound.taken).side_is in
+    omega arith
 
 pub scan_rows-requires : goal.scan_rows-requires
 scan_rows-requires c =
-    let args = c.args in
-    let pre = c.requires in
+    let run = c.args.sound.run in
     let area_width = c.area_width in
     let area_height = c.area_height in
     let scan_cells = c.scan_cells in
-    let s = sound args.run pre.0 in
+    let s = sound run c.args.sound.taken in
     let h = area_height.ensures.0 in
-    let l = pre.1.1 in (
-      work_lent args.run s args.levels.now pre.1.0 _ _ area_width.ensures.0 h,
-      (omega arith, rw scan_cells.ensures (scan_reaches args.run s)),
+    let l = c.requires.1 in (
+      work_lent run s c.args.levels.now c.requires.0 _ _ area_width.ensures.0 h,
+      (omega arith, rw scan_cells.ensures (scan_reaches run s)),
     )
 
 pub returns : goal.returns
 returns c =
-    let args = c.args in
-    let pre = c.requires in
-    let area_width = c.area_width in
-    let area_height = c.area_height in
-    let scan_cells = c.scan_cells in
-    let beyond_of = c.beyond_of in
-    let same = work_area args.run (sound args.run pre.0) args.levels.now pre.1.0 _ _ area_width.ensures.0
-    area_height.ensures.0 _ _ beyond_of.ensures scan_cells.ensures in
+    let run = c.args.sound.run in
+    let levels = c.args.levels.now in
+    let same = work_area run (sound run c.args.sound.taken) levels c.requires.0 _ _ c.area_width.ensures.0
+    c.area_height.ensures.0 _ _ c.beyond_of.ensures c.scan_cells.ensures in
     let scan-rows = c.scan_rows in (
-      scan-rows.ensures.0 ∙ ap (λ a. scan_rows a args.run.rows args.count args.levels.now) same,
-      scan-rows.ensures.1 ∙ ap (λ a. rows_lowered a args.run.rows args.count args.levels.now) same,
+      scan-rows.ensures.0 ∙ ap (λ a. scan_rows a run.rows c.args.count levels) same,
+      scan-rows.ensures.1 ∙ ap (λ a. rows_lowered a run.rows c.args.count levels) same,
     )
