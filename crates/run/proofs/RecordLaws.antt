@@ -6,13 +6,15 @@ use native.Mathlib.Omega.{arith}
 use mathlib.Core.Path.{◌≡◌, refl, sym}
 use mathlib.Core.Bool.{Bool, true, false, not, cond, ◌||◌, true≢false}
 use mathlib.Core.Logic.{◌≢◌}
-use mathlib.Core.List.{List, ◌∷◌}
+use mathlib.Core.List.{List, [], ◌∷◌}
 use lib.Dec.{eqb, ltb}
 use lib.ListN.{length, get_or, drop, drop_of_length-le}
 use lib.Seq.{drop-cons}
 use borrow.Author.Tests.{lt-ltb, le-ltb, le-leb, lt-leb, eq-eqb, ne_eqb, eqb-true, eqb-false, ltb-false, not-false}
 use Rattle.basics.specs.Limits.{longest_side, highest_cap}
+use Rattle.basics.specs.Refusals.{first}
 use Rattle.basics.proofs.BoundLaws.{neither}
+use Rattle.basics.proofs.RefusalLaws.{passed}
 use Rattle.basics.specs.Bounds.{any_above}
 use Rattle.grid.specs.Figures.{reach}
 use Rattle.element.specs.Elements.{is_side, count_set}
@@ -252,7 +254,10 @@ sound r e =
       area_high = fits.2;
     }
 
--- the record in one that was judged
+-- a record that is judged alone, and the one that the judge gives
+pub judged_good : (r : Record) → 0 ≡ first ((1, record_bad r) ∷ []) → record_bad r ≡ false
+judged_good r e = (passed 1 (record_bad r) [] (λ q. absurd (omega arith)) (sym e)).0
+
 pub judged_sound : (s : declared.Sound) {r : Record} → s.run ≡ r → Sound r
 judged_sound s e = rw (sym e) (sound s.run s.taken)
 

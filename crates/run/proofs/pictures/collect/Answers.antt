@@ -1,11 +1,10 @@
 -- A sound record has a small area, which its levels cover.
-use Rattle.basics.proofs.RefusalLaws.{accepts, passed}
-use Rattle.run.proofs.RecordLaws.{judged_sound, area_small}
+use Rattle.basics.proofs.RefusalLaws.{accepts}
+use Rattle.run.proofs.RecordLaws.{judged_good, judged_sound, area_small}
 use Rattle.run.proofs.PictureAnswers.{area_canvas, is_collected, view_taken, collect_views}
 use Rattle.run.proofs.PictureAnswers.{collect_judged, picture_released}
 use native.Mathlib.Omega.{arith}
 use mathlib.Core.Path.{sym, ◌∙◌}
-use mathlib.Core.List.{[]}
 use Rattle.run.proofs.pictures.collect.Goals as goal
 
 pub overflow_mul-run : goal.overflow_mul-run
@@ -31,7 +30,7 @@ returns c =
     let run = c.args.run in
     let same = c.in_ok-sound.ensures.1 in
     let s = judged_sound c.in_ok-sound.sound same in
-    let bad = (passed 1 _ [] (λ q. absurd (omega arith)) (sym c.in_ok-sound.ensures.0)).0 in
+    let bad = judged_good run c.in_ok-sound.ensures.0 in
     let judged = collect_judged run c.args.levels.now c.args.out.now bad (rw same at c.in_ok-check_view.ensures) in
     accepts _ (picture_released run (collect_views run c.args.levels.now c.args.out.now) tt (sym judged)
     (rw same at (sym c.all_done.ensures ∙ c.if-not-all_done.false)))
