@@ -100,10 +100,14 @@ module _ (input : Input) (sheet bytes lent : List ℕ) where
     abbrev levels : List ℕ
     levels = first_levels input sheet bytes plan
 
+    -- it is a run that a start gave
+    pub first_taken : {run : Record} {begun : List ℕ} → Begun plan run begun → foreign run ≡ false
+    first_taken (p, q) = rw p (first_start_lem plan z).taken
+
     -- what finishing it asks, and gives
     pub first_fresh : {run : Record} {begun : List ℕ} → Begun plan run begun
-        → (foreign run ≡ false) × ((run.rows ≡ 0) × (length begun ≡ area_height run * area_width run))
-    first_fresh (p, q) = let s = first_start_lem plan z in rw (p, q) (s.taken, (s.fresh, s.size))
+        → (run.rows ≡ 0) × (length begun ≡ area_height run * area_width run)
+    first_fresh (p, q) = let s = first_start_lem plan z in rw (p, q) (s.fresh, s.size)
 
     pub first_finished : {run : Record} {begun after : List ℕ} → Begun plan run begun → after ≡ finished run begun
         → (run ≡ r) × (after ≡ levels)

@@ -22,8 +22,8 @@ use Rattle.scan.specs.Starts.{OwnStart, DilationStart, on_canvas}
 use Rattle.scan.proofs.Dilation.{found_frame, found_by_sizes}
 use Rattle.scan.proofs.ScanLaws.{rows_length}
 use Rattle.run.specs.declared.Record.{Record}
-use Rattle.run.specs.Records.{area_width, area_height, area_of, due, margin, record_bad}
-use Rattle.run.specs.Starting.{start_levels, framed, dilation_refusals}
+use Rattle.run.specs.Records.{area_width, area_height, area_of, due, margin, foreign, record_bad}
+use Rattle.run.specs.Starting.{start_levels, framed, dilation_refusals, StartsDilation}
 use Rattle.run.specs.Kinds.{is_held_at}
 use Rattle.run.specs.Provisional.{provisional_refusals}
 use Rattle.run.specs.Series.{dilation}
@@ -64,6 +64,11 @@ module _ (input : Input) (sheet bytes : List ℕ) (cap : ℕ) (lent : List ℕ)
       (element_of input bytes) (start_levels r sheet)
   plain = dilation_start input.width input.height sheet input.side bytes input_judged.element cap
       (sound r is_started.taken)
+
+  -- what the start answers is a record that a start could give
+  pub start_taken : {number : ℕ} {run : Record} {levels : List ℕ}
+      → StartsDilation input.width input.height sheet input.side bytes cap lent number (run, levels) → foreign run ≡ false
+  start_taken a = rw (ap (λ t. t.0) (a.accepted (a.refusal ∙ z))) is_started.taken
 
   -- what the start gives, with the levels raised by a map
   module _ (map : List ℕ) {run : Record} {levels : List ℕ} (s : StartsByMap input sheet bytes cap map run levels) where

@@ -3,15 +3,17 @@ use Prim.Native.Nat.{◌*◌, ℕ, ◌+◌, ◌≤◌, ◌<◌}
 use native.Mathlib.Nat.{mul-le-mul}
 use native.Mathlib.Numerals.{add-one}
 use native.Mathlib.Omega.{arith}
-use mathlib.Core.Path.{◌≡◌, refl}
+use mathlib.Core.Path.{◌≡◌, refl, sym}
 use mathlib.Core.Bool.{Bool, true, false, not, cond, ◌||◌, true≢false}
 use mathlib.Core.Logic.{◌≢◌}
-use mathlib.Core.List.{List, ◌∷◌}
+use mathlib.Core.List.{List, [], ◌∷◌}
 use lib.Dec.{eqb, ltb}
 use lib.ListN.{length, get_or, drop, drop_of_length-le}
 use lib.Seq.{drop-cons}
 use borrow.Author.Tests.{eqb-true, eqb-false, ltb-false, not-false}
+use Rattle.basics.specs.Refusals.{first}
 use Rattle.basics.proofs.BoundLaws.{neither}
+use Rattle.basics.proofs.RefusalLaws.{passed}
 use Rattle.basics.specs.Bounds.{any_above}
 use Rattle.grid.specs.Figures.{reach}
 use Rattle.element.specs.Elements.{is_side, count_set}
@@ -19,6 +21,7 @@ use Rattle.element.proofs.ElementLaws.{side_bounds}
 use Rattle.sheet.specs.Sheets.{is_side_out}
 use Rattle.sheet.proofs.FrameLaws.{side_in}
 use Rattle.run.specs.declared.Record.{Record}
+use Rattle.run.specs.declared.sound.Sound as declared
 use Rattle.run.specs.declared.kinds.Kind.TheVariants.{Eroding, Dilating, Cropping}
 use Rattle.run.specs.Kinds.{by_kind, erosion_kind, dilation_kind, background_beyond, foreground_beyond}
 use Rattle.run.specs.Records.{margin_of, area_width, area_height, due, outside, any_outside, element_foreign}
@@ -165,6 +168,13 @@ module _ (r : Record) (e : foreign r ≡ false) where
   frame_sound = ((sound r e).wide.1, mul-le-mul (sound r e).high.1 (sound r e).wide.1)
 
 pub ruleset sounds = (side_sound, cap_sound, width_sound, height_sound, area_sound, frame_sound)
+
+-- a record that is judged alone, and the one that the judge gives
+pub judged_good : (r : Record) → 0 ≡ first ((1, record_bad r) ∷ []) → record_bad r ≡ false
+judged_good r e = (passed 1 (record_bad r) [] (λ q. absurd (omega arith)) (sym e)).0
+
+pub judged_sound : (s : declared.Sound) {r : Record} → s.run ≡ r → Sound r
+judged_sound s e = rw (sym e) (sound s.run s.taken)
 
 -- a record that is not refused
 pub not_bad : (r : Record) → record_bad r ≡ false → (foreign r ≡ false) × (r.rows ≤ due r)

@@ -7,6 +7,7 @@ pub mod kinds;
 pub mod pictures;
 pub mod provisional;
 pub mod records;
+pub mod sound;
 pub mod starting;
 
 // The numbers of an input: the sides of the frame, and the element's side.

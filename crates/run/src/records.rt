@@ -1,16 +1,17 @@
-// Records: whether a start could have given one, and the area that its run works on.
-ghost use Rattle.std.specs.Prelude.{◌≡◌, true, false, ◌*◌, ◌^◌, ◌<◌, ◌≤◌};
-ghost use Rattle.basics.specs.Limits.{longest_side, highest_cap, most_rows};
+// Records: whether a start could have given one, and the frame of its run.
+ghost use Rattle.std.specs.Prelude.{◌≡◌, true, ◌*◌, ◌^◌, ◌<◌, ◌≤◌, [], ◌∷◌, IfOk};
+ghost use Rattle.basics.specs.Limits.{longest_side, highest_cap};
+ghost use Rattle.basics.specs.Refusals.{first, number};
 ghost use Rattle.basics.specs.Tables.{table};
 ghost use Rattle.element.specs.Elements.{is_side};
-ghost use Rattle.run.specs.Records.{margin_of, canvas_side, area_of, due, outside, any_outside, element_foreign};
+ghost use Rattle.run.specs.Records.{margin_of, canvas_side, outside, any_outside, element_foreign};
 ghost use Rattle.run.specs.Records.{kind_foreign, cap_foreign, foreign, record_bad, frame_of};
-ghost use Rattle.run.specs.Continuing.{levels_wrong, is_done};
 ghost use Rattle.run.specs.Patches.{Canvas, level_in};
 
 use super::kinds::Kind;
+use super::sound::Sound;
 use super::{Record, kinds};
-use row::Area;
+use basics::Refusal;
 
 // A frame, and the margin of the canvas around it.
 #[derive(Clone, Copy)]
@@ -137,52 +138,21 @@ fn record_foreign(run: Record) -> bool
         || cap_foreign(run)
 }
 
-// The area that a run works on.
-#[tactic(auto, using(crate::proofs::RecordLaws::sounds))]
-pub fn area_of(run: Record) -> Area
-    requires { foreign run ≡ false }
-    ensures { result ≡ area_of run }
-{
-    let frame = frame_of(run);
-    Area {
-        width: frame.area_width(),
-        height: frame.area_height(),
-        beyond: kinds::beyond_of(run),
-        cells: kinds::scan_cells(run),
-    }
-}
-
-// The rows due in all.
-#[tactic(auto, using(crate::proofs::RecordLaws::sounds))]
-pub fn rows_due(run: Record) -> usize
-    requires { foreign run ≡ false }
-    ensures { (result ≡ due run) × (result ≤ most_rows) }
-{
-    2 * frame_of(run).area_height()
-}
-
-// Whether all of them are done.
-pub fn all_done(run: Record) -> bool
-    requires { foreign run ≡ false }
-    ensures { result ≡ is_done run }
-{
-    run.rows == rows_due(run)
-}
-
-// Whether the levels lent are not one for each point of the area.
-#[tactic(auto, using(crate::proofs::RecordLaws::sounds))]
-pub fn levels_wrong(run: Record, levels: &[u16]) -> bool
-    requires { foreign run ≡ false }
-    ensures { result ≡ levels_wrong run levels.now }
-{
-    let frame = frame_of(run);
-    levels.len() != frame.area_height() * frame.area_width()
-}
-
-// Refusal 1: no start gives the record, or more rows are done than due.
+// Whether no start gives the record, or more rows are done than due.
 #[tactic(auto, unfolding(crate::specs::Records::record_bad))]
 pub fn record_bad(run: Record) -> bool
     ensures { result ≡ record_bad run }
 {
-    record_foreign(run) || rows_due(run) < run.rows
+    record_foreign(run) || Sound { run }.rows_due() < run.rows
+}
+
+// Refusal 1.
+#[tactic(auto, using(crate::proofs::RecordLaws::not_foreign))]
+pub fn check_record(run: Record) -> Result<Sound, Refusal>
+    ensures { (number result ≡ first ((1, record_bad run) ∷ [])) × IfOk result (λ sound. sound.run ≡ run) }
+{
+    if record_bad(run) {
+        return Err(Refusal::Record);
+    }
+    Ok(Sound { run })
 }

@@ -56,8 +56,8 @@ pub fn spectrum(
         (record { first = first.new; second = second.new; out = table.new }, value_or no_summary result) }
 {
     check_spectrum(input, sheet, bytes, first.len(), second.len(), table.len())?;
-    let run = answering::first_run(input, sheet, bytes, Plan::OPENING_LEVELS, first);
-    counting::fill_table(run, first, second, table);
+    let sound = answering::first_run(input, sheet, bytes, Plan::OPENING_LEVELS, first);
+    counting::fill_table(sound, first, second, table);
     first.fill(0);
     second.fill(0);
     Ok(fractions::summary_of(table))

@@ -8,12 +8,13 @@ use Rattle.run.proofs.continuing.work_rows.Goals as goal
 
 pub overflow_sub-reach : goal.overflow_sub-reach
 overflow_sub-reach c =
-    let b = side_bounds c.args.run.side (sound c.args.run c.requires.0).side_is in
+    let run = c.args.sound.run in
+    let b = side_bounds run.side (sound run c.args.sound.taken).side_is in
     omega arith
 
 pub scan_rows-requires : goal.scan_rows-requires
 scan_rows-requires c =
-    let run = c.args.run in
-    let s = sound run c.requires.0 in
-    let due = c.requires.1.1 in
-    rw c.area_of.ensures (work_lent run s c.args.levels.now c.requires.1.0, (due, scan_reaches run s))
+    let run = c.args.sound.run in
+    let s = sound run c.args.sound.taken in
+    let due = c.requires.1 in
+    rw c.area.ensures (work_lent run s c.args.levels.now c.requires.0, (due, scan_reaches run s))
