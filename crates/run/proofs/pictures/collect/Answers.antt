@@ -4,6 +4,7 @@ use Rattle.run.proofs.RecordLaws.{judged_good, judged_sound, area_small}
 use Rattle.run.proofs.PictureAnswers.{area_canvas, is_collected, view_taken, collect_views}
 use Rattle.run.proofs.PictureAnswers.{collect_judged, picture_released}
 use mathlib.Core.Path.{sym, ◌∙◌}
+use native.Mathlib.Omega.{arith}
 use Rattle.run.proofs.pictures.collect.Goals as goal
 
 pub overflow_mul-run : goal.overflow_mul-run
