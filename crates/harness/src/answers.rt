@@ -7,7 +7,7 @@ ghost use Rattle.harness.specs.Boundary.{at_latest, answered};
 use basics::Refusal;
 
 // The number of a call: 0 where it is accepted.
-pub fn number<T>(answer: Result<T, Refusal>) -> u32
+pub fn number<T: Copy>(answer: Result<T, Refusal>) -> u32
     ensures { result ≡ number answer }
 {
     match answer {
@@ -17,7 +17,7 @@ pub fn number<T>(answer: Result<T, Refusal>) -> u32
 }
 
 // 11, unless the call is refused by a lower number.
-pub fn at_latest<T>(judged: Result<T, Refusal>) -> u32
+pub fn at_latest<T: Copy>(judged: Result<T, Refusal>) -> u32
     ensures { result ≡ at_latest (number judged) }
 {
     let number = number(judged);
