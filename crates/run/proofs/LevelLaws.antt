@@ -13,13 +13,6 @@ use Rattle.row.specs.RowRule.{none}
 use Rattle.run.specs.Kinds.{cropped_level}
 use Rattle.run.specs.Patches.{held_between}
 
-module _ (n a b : ℕ) where
-  pub where_one : n ≡ 1 → a ≡ cond (eqb n 1) a b
-  where_one e = rw (eq-eqb n 1 e)
-
-  pub where_other : n ≢ 1 → b ≡ cond (eqb n 1) a b
-  where_other m = rw (ne_eqb n 1 m)
-
 -- a level from 1 to n + 1, as a test
 pub range_iff : (n level : ℕ) → ((0 < level) × (level ≤ suc n)) ↔ (leb 1 level && leb level (suc n) ≡ true)
 range_iff n level = (

@@ -31,10 +31,6 @@ use Rattle.run.specs.Patches.{Canvas, level_in, read_as, held_between, reading_o
 use Rattle.run.proofs.LevelLaws.{cropped_above}
 use Rattle.run.proofs.RecordLaws.{Sound, sound, not_bad}
 
--- what is known of a record that is not refused
-pub sound_record : (r : Record) → record_bad r ≡ false → Sound r
-sound_record r a = sound r (not_bad r a).0
-
 module _ {r : Record} (s : Sound r) where
   -- its levels cover its area
   pub area_canvas : (levels : List ℕ) → levels_wrong r levels ≡ false → Canvas r.width r.height (margin r) levels

@@ -108,12 +108,6 @@ frame_canvas width height side levels a b e =
           (let p : width ≡ canvas_side width (margin_of 0 side) = omega arith in p);
     }
 
--- .. the others have the canvas of their cap
-pub canvas_area : (width height cap side : ℕ) (levels : List ℕ)
-    → first (canvas_refusals width height cap side (length levels)) ≡ 0 → Canvas width height (margin_of cap side) levels
-canvas_area width height cap side levels z = let t = canvas_taken width height cap side (length levels) z in
-    record { wide = t.0; high = t.1; room = t.2 }
-
 -- NO SECOND OUTCOME
 pub start_erosion_unique : (width height : ℕ) (sheet : List ℕ) (side : ℕ) (bytes levels : List ℕ) (m n : ℕ)
     (x y : Record × List ℕ)
