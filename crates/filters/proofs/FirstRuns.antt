@@ -51,8 +51,7 @@ module _ (input : Input) (sheet bytes lent : List ℕ) where
       sym (erosion_fits input.width input.height sheet input.side bytes lent t.common
       (t.work_size ∙ ap₂ (λ h w. h * w) (no_margin input.side input.height) (no_margin input.side input.width)))
 
-  module _ (plan : Plan) (z : Accepts plan) {number : ℕ} {after : Record × List ℕ} where
-  -- it is a run that a start gives
+  -- the first record and its start levels are a run that a start gives
   pub first_start_lem : (plan : Plan) → Accepts plan → IsStart (first_record input bytes plan) (first_start input sheet bytes plan)
   first_start_lem plan = go plan.closing plan.size plan.packed
     where
