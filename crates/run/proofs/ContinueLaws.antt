@@ -3,18 +3,16 @@ use Prim.Native.Nat.{ℕ, ◌+◌, ◌*◌, ◌≤◌, ◌<◌}
 use native.Mathlib.Omega.{arith}
 use mathlib.Core.Path.{◌≡◌, refl, ap, ap₂, ◌∙◌}
 use mathlib.Core.Bool.{Bool, true, false, not}
-use mathlib.Core.Logic.{◌≢◌}
 use mathlib.Core.List.{List, [], ◌∷◌}
 use lib.Dec.{eqb, ltb}
 use lib.ListN.{length}
 use borrow.Author.Tests.{lt-ltb, le-ltb, eqb-true, ltb-false}
 use Rattle.basics.specs.Refusals.{first}
-use Rattle.basics.proofs.RefusalLaws.{refuses, accepts, rule_unique}
+use Rattle.basics.proofs.RefusalLaws.{accepts, rule_unique}
 use Rattle.scan.specs.Scan.{area, Lent, scan_rows, rows_lowered}
 use Rattle.run.specs.declared.Record.{Record}
-use Rattle.run.specs.declared.continuing.Continued.{Continued}
 use Rattle.run.specs.Kinds.{beyond_of, cells_of}
-use Rattle.run.specs.Records.{area_width, area_height, due, area_of, record_bad, empty_record}
+use Rattle.run.specs.Records.{area_width, area_height, due, area_of, record_bad}
 use Rattle.run.specs.Continuing.{State, levels_wrong, continue_refusals, worked, with_rows, is_done, lowered_by, Continues}
 use Rattle.run.proofs.RecordLaws.{Sound}
 

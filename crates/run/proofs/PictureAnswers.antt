@@ -30,11 +30,7 @@ use Rattle.run.specs.Pictures.{collected, Collects, thresholded, Thresholds}
 use Rattle.run.specs.Provisional.{view_refusals, provisional_refusals, ShowsProvisional}
 use Rattle.run.specs.Patches.{Canvas, level_in, read_as, held_between, reading_of, low_of, high_of, bounds_of}
 use Rattle.run.proofs.LevelLaws.{cropped_above}
-use Rattle.run.proofs.RecordLaws.{Sound, sound, not_bad}
-
--- what is known of a record that is not refused
-pub sound_record : (r : Record) → record_bad r ≡ false → Sound r
-sound_record r a = sound r (not_bad r a).0
+use Rattle.run.proofs.RecordLaws.{Sound}
 
 module _ {r : Record} (s : Sound r) where
   -- its levels cover its area
