@@ -42,7 +42,7 @@ fn work_rows(sound: Sound, levels: &mut [u16], count: usize) -> usize
 }
 
 // Public: works the allowance or what is due, the lesser. Refusals 1, 10, 12.
-#[tactic(auto, using(crate::proofs::RecordLaws::not_foreign, crate::proofs::RecordLaws::rows_within))]
+#[tactic(auto, using(crate::proofs::RecordLaws::rows_within))]
 pub fn continue_run(run: Record, levels: &mut [u16], allowance: usize) -> Result<Continued, Refusal>
     ensures { Continues run levels.old allowance (number result) (answer_of result levels.new) }
 {
