@@ -57,7 +57,8 @@ fn store_held(sound: Sound, size: usize, second: &[u16], out: &mut [u16])
 
 // Stores one size.
 fn one_size(sound: Sound, size: usize, first: &[u16], second: &mut [u16], out: &mut [u16])
-    requires { Ready sound.run first.now second.old × ((size ≤ largest_size) × (length out.old ≡ sound.run.height * sound.run.width)) }
+    requires { Ready sound.run first.now second.old × ((size ≤ largest_size) ×
+        (length out.old ≡ sound.run.height * sound.run.width)) }
     ensures { (length second.new ≡ length second.old) ×
         (FindsSize sound.run first.now size second.new ×
         (out.new ≡ stored sound.run second.new size out.old)) }

@@ -1,5 +1,5 @@
-// Dilating each foreground point by a size of its own, which a lent map gives: one scan, from levels that start with R + 1 - S(a) at
-// each foreground point a.
+// Dilating each foreground point by a size of its own, which a lent map gives: one scan, from levels that start with R + 1 - S(a)
+// at each foreground point a.
 #![tactic(auto)]
 
 ghost use Rattle.std.specs.Prelude.{◌≡◌, false, ◌||◌, ◌+◌, ◌*◌, ◌<◌, ◌≤◌, ltb, length, get_or, replicate};
