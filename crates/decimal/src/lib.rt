@@ -41,6 +41,7 @@ pub struct Number {
     pub next: usize,
 }
 
+// Kept: a place in the file, here and in pbm's header, whose definitions go by places (`HeaderRead`).
 // Reads the digits of `file` from `at` on, however many, as a number; one above the limit is read as the limit.
 pub fn read_number(file: &[u8], at: usize, limit: usize) -> Number
     requires { (at ≤ length file.now) × (limit < 4294967296) }

@@ -6,7 +6,8 @@ ghost use Rattle.harness.specs.Boundary.{at_latest, answered};
 
 use basics::Refusal;
 
-// The number of a call: 0 where it is accepted.
+// The number of a call: 0 where it is accepted. Kept: the calls that store more than one value `match` on their own, each with its
+// slices; a helper that took a closure over these would be no shorter.
 pub fn number<T: Copy>(answer: Result<T, Refusal>) -> u32
     ensures { result ≡ number answer }
 {

@@ -30,8 +30,8 @@ fn lower_each<F: Fn(usize) -> u16>(levels: &mut [u16], offer: F)
     }
 }
 
-// The row, by the partners in the row that a cell leads to, `across` columns on from 3 before. It is not inlined, so that nothing of
-// it is worked out for the cells that are not set.
+// The row, by the partners in the row that a cell leads to, `across` columns on from 3 before. It is not inlined, so that nothing
+// of it is worked out for the cells that are not set.
 #[inline(never)]
 fn by_columns(worked: &mut [u16], partners: &[u16], across: usize, beyond: u16)
     requires { length partners.now ≡ length worked.old }
@@ -212,6 +212,7 @@ fn settle(stored: &mut [u16], worked: &[u16]) -> usize
     usize::from(fallen)
 }
 
+// Kept: `upward` is a flag here and below, as it is in `row_rule` of the definitions; a direction has no third.
 // The row rule on a part of the levels, the rows of `area`, at row `row` of the part; and how many points it lowers. It works in
 // `worked`, whatever that holds.
 pub fn row_rule(

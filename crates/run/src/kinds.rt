@@ -142,6 +142,7 @@ impl Bounds {
     }
 }
 
+// Kept, here and where it is called: a size with its bound in a clause; a type of its own would be opened at each use.
 // The levels that a run holds at a size: above the size for a plain erosion; from 1 to the size and one for a dilation; for a
 // cropped sheet's erosion, whose levels are collected one less, above the size and one, at most R + 1.
 pub fn bounds_of(run: Record, size: usize) -> Bounds

@@ -20,7 +20,7 @@ pub struct Summary {
     pub share: f64,
 }
 
-// Refusals 2 to 7, 10, 11 and 14 with buffers of these lengths.
+// Refusals 2 to 7, 10, 11 and 14 with buffers of these lengths. Kept: three numbers, as the definition takes them (`refusals_by`).
 pub fn check_spectrum(
     input: Input,
     sheet: &[u8],
