@@ -72,8 +72,9 @@ fn centred_cell(side: usize, bytes: &[u8], row: usize, col: usize) -> u8
     }
 }
 
-// An accepted element as seven rows of seven cells. Kept: loops, here and below; of what `array::from_fn` makes the check did not find
-// the rows (tried). Kept: side and bytes apart, since a struct of both would hold a reference (`x.entry.bytes.now` in each clause).
+// An accepted element as seven rows of seven cells. Kept: loops, here and below; the check did not find the rows of what
+// `array::from_fn` makes (tried). Kept: side and bytes apart, since a struct of both would hold a reference, and each clause would
+// say `x.entry.bytes.now`.
 pub fn cells_of(side: usize, bytes: &[u8]) -> [[u8; 7]; 7]
     requires { (is_side side ≡ true) × (length bytes.now ≡ side * side) }
     ensures { result ≡ centred side bytes.now }

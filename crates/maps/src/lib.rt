@@ -20,8 +20,8 @@ use run::records::Frame;
 use run::sound::Sound;
 use run::starting;
 
-// Whether the map has a size above the cap at a row and a column, and a foreground point stands there. Kept: sheet and map apart, since
-// a struct of both would hold references.
+// Whether the map has a size above the cap at a row and a column, and a foreground point stands there. Kept: sheet and map apart,
+// since a struct of both would hold references.
 fn is_above(input: Input, sheet: &[u8], map: &[u16], cap: usize, row: usize, col: usize) -> bool
     requires { Fits input sheet.now map.now × ((row < input.height) × (col < input.width)) }
     ensures { result ≡ ltb cap (get_or (sizes_seen input sheet.now map.now) (row * input.width + col) 0) }

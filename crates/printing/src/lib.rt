@@ -21,8 +21,8 @@ pub const MOST_PIXELS: usize = 16384;
 // Room for the picture of so many pixels.
 pub const TEXT_ROOM: usize = 98432;
 
-// Writes "refused", a blank, the number and LF to the front of `out`, and gives the text's length. Kept: its bytes are promised, which
-// are none of `Display`'s.
+// Writes "refused", a blank, the number and LF to the front of `out`, and gives the text's length. Kept: its bytes are promised, as
+// none of `Display`'s are.
 fn write_refused(number: usize, out: &mut [u8]) -> usize
     requires { (number < 4294967296) × (text_room ≤ length out.old) }
     ensures { Prints (refused_text number) result out.new }

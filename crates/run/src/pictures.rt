@@ -25,8 +25,8 @@ fn copy_row(levels: &[u16], reading: Reading, out: &mut [u16])
     }
 }
 
-// The frame's part of the levels, each as it is read. Kept: this walk over a frame's rows and those that pack, store, raise and count
-// are a loop each; one for all would state by a closure what it does to parts of two slices.
+// The frame's part of the levels, each as it is read. Kept: this walk over a frame's rows and those that pack, store, raise and
+// count are a loop each; one for all would state by a closure what it does to parts of two slices.
 fn copy_frame(levels: &[u16], frame: Frame, reading: Reading, out: &mut [u16])
     requires { Canvas frame.width frame.height frame.margin levels.now × (length out.old ≡ frame.height * frame.width) }
     ensures { out.new ≡ raster frame.width frame.height
