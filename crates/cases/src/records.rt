@@ -10,6 +10,7 @@ fn begun() -> Result<Record, Refusal> {
     run::starting::start_erosion(elements::input_on(3, 3), &SHEET, &CROSS, &mut [0; 9])
 }
 
+// Kept: this and the next, a call of another function each.
 fn begun_dilation() -> Result<Record, Refusal> {
     run::starting::start_dilation(elements::input_on(3, 3), &SHEET, &CROSS, 1, &mut [0; 25])
 }

@@ -106,7 +106,7 @@ fn step_of(set: bool) -> u32
 }
 
 // The level at `at`, lowered to the least of three. It waits for `near` last, which is known last. In 32 bits, a level and a step
-// add up with no limit to test.
+// add up with no limit to test. Kept: a row and an index in it, by which both directions go.
 fn lower_to_least(worked: &mut [u16], at: usize, near: u32, middle: u32, far: u32) -> u32
     requires { at < length worked.old }
     ensures { Lowest worked.old worked.new at near middle far result }

@@ -22,7 +22,8 @@ pub struct Frame {
 }
 
 impl Frame {
-    // The sides of the area: the frame's, with the margin on both sides.
+    // The sides of the area: the frame's, with the margin on both sides. Kept: a method for each, here and of `Sound`; one that
+    // took which side would be longer at each call.
     // Kept: one method, as in frame.area_side(frame.width), would be no plainer.
     pub fn area_width(self) -> usize
         requires { canvas_side self.width self.margin ≤ 2 ^ 32 }
