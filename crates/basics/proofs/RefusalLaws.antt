@@ -92,10 +92,6 @@ module _ {A : Type 0} {refusals : List Refusal} {kept : A} {Right : A → Type 0
   pub refuses : (number : ℕ) → number ≢ 0 → number ≡ first refusals → Answers refusals kept Right number kept
   refuses number n e = record { refusal = e; accepted = λ z. absurd (n z); refused = λ _. refl }
 
-  pub refuses_with : (refusal : declared.Refusal) → number_of refusal ≡ first refusals
-      → Answers refusals kept Right (number_of refusal) kept
-  refuses_with refusal = refuses (number_of refusal) (number_positive refusal)
-
   pub accepts : (after : A) → first refusals ≡ 0 → Right after → Answers refusals kept Right 0 after
   accepts after e h = record { refusal = sym e; accepted = λ _. h; refused = λ n. absurd (n refl) }
 

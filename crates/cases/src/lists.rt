@@ -9,6 +9,7 @@ use anyhow::Result;
 use basics::Refusal;
 
 // What is printed for a line that is no case.
+// Kept: a number, since it is one of the output.
 const NO_CASE: u32 = 99;
 
 // The longest file of a line.
@@ -39,6 +40,7 @@ fn number_of(digits: &[u8]) -> usize {
 fn asked(accepted: Case, words: &[u8]) -> Option<Case> {
     let mut case = accepted;
     let mut left = words;
+    // Kept: it counts nothing; each turn cuts a word and its number off what is left.
     while !left.is_empty() {
         let (word, behind) = cut(b' ', left);
         let (digits, next) = cut(b' ', behind);

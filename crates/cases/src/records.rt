@@ -10,6 +10,7 @@ fn begun() -> Result<Record, Refusal> {
     run::starting::start_erosion(elements::input_on(3, 3), &SHEET, &CROSS, &mut [0; 9])
 }
 
+// Kept: this and the next, a call of another function each.
 fn begun_dilation() -> Result<Record, Refusal> {
     run::starting::start_dilation(elements::input_on(3, 3), &SHEET, &CROSS, 1, &mut [0; 25])
 }
@@ -28,6 +29,7 @@ fn ruled(begun: Record, edge: u8) -> Record {
     Record { edge, ..begun }
 }
 
+// Kept: numbers, as the list writes them.
 // By its number in the list: 1 and 2 an erosion begun and done, 3 and 4 a cropped sheet's; 5 a dilation with edge rule 1, 6 an
 // erosion with edge rule 2, 7 one with edge rule 0 and a cap; any other all zero.
 pub fn record_of(number: usize) -> Result<Record, Refusal> {

@@ -6,8 +6,8 @@ use native.Mathlib.Omega.{arith}
 use mathlib.Core.Path.{◌≡◌, refl, sym, ap, ◌∙◌}
 use mathlib.Core.Bool.{cond}
 use mathlib.Core.List.{List, [], ◌∷◌, ◌++◌, append_assoc}
-use lib.ListN.{length, get_or, take, drop, set, length-set, take-append-drop}
-use lib.Seq.{drop-cons, take-set-le, drop-set-lt, get_or-set_same, take-take}
+use lib.ListN.{length, get_or, take, drop, set, length-set}
+use lib.Seq.{drop-cons, drop-set-lt, get_or-set_same}
 use Rattle.std.proofs.lemmas.List.{take_more}
 use Rattle.std.proofs.lemmas.List.Folds.{length-prefix_len}
 use Rattle.std.proofs.lemmas.List.Sums.{take_while-cons}
@@ -51,51 +51,35 @@ last_all = by_tens (λ n. last_digits (length (digits n)) n ≡ digits n) one mo
         rw e (ap (λ row. row ++ ((48 + n % 10) ∷ [])) ih ∙ sym (digits_more n l))
 
 -- what is written stands from i on, and with the digits before it of what is left it makes the whole
-pub record Writing (n at : ℕ) (buffer : List ℕ) (left i : ℕ) (out : List ℕ) : Type 0 where
-  pub within : at ≤ i
-  pub front : take i out ≡ take i buffer
-  pub whole : last_digits (i - at) left ++ drop i out ≡ digits n ++ drop (at + length (digits n)) buffer
+abbrev pub Writing : ℕ → List ℕ → ℕ → ℕ → List ℕ → Type 0
+Writing n buffer left i out = last_digits i left ++ drop i out ≡ digits n ++ drop (length (digits n)) buffer
 
 drop-set : (out : List ℕ) (j v : ℕ) → j < length out → drop j (set out j v) ≡ v ∷ drop (suc j) out
 drop-set out j v l =
     let q : j < length (set out j v) = let s = length-set out j v in omega arith in
     drop-cons (set out j v) j 0 q ∙ rw (get_or-set_same out j v 0 l, drop-set-lt (suc j) out j v (omega arith))
 
-take_less : (xs ys : List ℕ) (i j : ℕ) → j ≤ i → take i xs ≡ take i ys → take j xs ≡ take j ys
-take_less xs ys i j l e = sym (take-take j i xs l) ∙ ap (take j) e ∙ take-take j i ys l
+pub writing_start : (n : ℕ) (buffer : List ℕ) (i : ℕ) → i ≡ length (digits n) → Writing n buffer n i buffer
+writing_start n buffer i e = rw (e, last_all n)
 
-pub writing_start : (n at : ℕ) (buffer : List ℕ) (i : ℕ) → i ≡ at + length (digits n) → Writing n at buffer n i buffer
-writing_start n at buffer i e =
-    let k : i - at ≡ length (digits n) = omega arith in
-    record { within = omega arith; front = refl; whole = rw (k, last_all n, e) }
+pub writing_turn : (n : ℕ) (buffer : List ℕ) (left i : ℕ) (out : List ℕ) → Writing n buffer left i out → 0 < i → i ≤ length out
+    → (byte : ℕ) → byte ≡ 48 + left % 10 → Writing n buffer (left / 10) (i - 1) (set out (i - 1) byte)
+unfolding last_digits
+writing_turn n buffer left i out h l m byte e =
+    let j = i - 1 in
+    let q : suc j ≡ i = omega arith in
+    let d : drop j (set out j byte) ≡ (48 + left % 10) ∷ drop i out = drop-set out j byte (omega arith) ∙ rw (q, e) in
+    ap (λ tail. last_digits j (left / 10) ++ tail) d
+    ∙ sym (append_assoc (last_digits j (left / 10)) ((48 + left % 10) ∷ []) (drop i out))
+    ∙ ap (λ k. last_digits k left ++ drop i out) q
+    ∙ h
 
-module _ {n at : ℕ} {buffer : List ℕ} {left i : ℕ} {out : List ℕ} (h : Writing n at buffer left i out) where
-  pub writing_turn : at < i → i ≤ length out → (byte : ℕ) → byte ≡ 48 + left % 10
-      → Writing n at buffer (left / 10) (i - 1) (set out (i - 1) byte)
-  unfolding last_digits
-  writing_turn l m byte e =
-      let j = i - 1 in
-      let q : suc j ≡ i = omega arith in
-      let k : i - at ≡ suc (j - at) = omega arith in
-      let d : drop j (set out j byte) ≡ (48 + left % 10) ∷ drop i out =
-      drop-set out j byte (omega arith) ∙ rw (q, e) in
-      let w = rw k at h.whole in
-      record {
-        within = omega arith;
-        front = take-set-le j out j byte (omega arith) ∙ take_less out buffer i j (omega arith) h.front;
-        whole = ap (λ tail. last_digits (j - at) (left / 10) ++ tail) d
-            ∙ sym (append_assoc (last_digits (j - at) (left / 10)) ((48 + left % 10) ∷ []) (drop i out)) ∙ w;
-      }
-
-  pub writing_end : i ≤ at → out ≡ written n at buffer
-  unfolding last_digits
-  writing_end l =
-      let w = h.within in
-      let e : i ≡ at = omega arith in
-      let z : at - at ≡ 0 = omega arith in
-      let front = rw e at h.front in
-      let rest = rw (e, z) at h.whole in
-      sym (take-append-drop at out) ∙ rw (front, rest)
+pub writing_end : (n : ℕ) (buffer : List ℕ) (left i : ℕ) (out : List ℕ) → Writing n buffer left i out → i ≤ 0
+    → out ≡ written n 0 buffer
+unfolding last_digits
+writing_end n buffer left i out h l =
+    let e : i ≡ 0 = omega arith in
+    rw e at h ∙ ap (λ k. digits n ++ drop k buffer) (let z : length (digits n) ≡ 0 + length (digits n) = omega arith in z)
 
 -- reading: the bytes up to the first that is no digit are the run
 taken_is : (row : List ℕ) → take (prefix_len is_ascii_digit row) row ≡ digit_run row

@@ -12,6 +12,7 @@ pub fn digit_count(n: usize) -> usize
 }
 
 // The byte of the digit `n`.
+// Kept: a function, whose contract tells a digit's byte from another (`digit_off_by_one`).
 fn digit_byte(n: usize) -> u8
     requires { n < 10 }
     ensures { result ≡ 48 + n }
@@ -19,18 +20,18 @@ fn digit_byte(n: usize) -> u8
     b'0' + n as u8
 }
 
-// Writes the digits of `n` into `out` from `at` on, the last one first, and gives the place after them.
-pub fn write_number(n: usize, out: &mut [u8], at: usize) -> usize
-    requires { at + length (digits n) ≤ length out.old }
-    ensures { (result ≡ at + length (digits n)) × (out.new ≡ written n at out.old) }
+// Writes the digits of `n` to the front of `out`, the last one first, and gives how many they are.
+pub fn write_number(n: usize, out: &mut [u8]) -> usize
+    requires { length (digits n) ≤ length out.old }
+    ensures { (result ≡ length (digits n)) × (out.new ≡ written n 0 out.old) }
 {
-    let end = at + digit_count(n);
+    let count = digit_count(n);
     let mut left = n;
-    for i in (at..end).rev() {
+    for i in (0..count).rev() {
         out[i] = digit_byte(left % 10);
         left /= 10;
     }
-    end
+    count
 }
 
 // A number that was read, at most the limit, and the place after its digits.
@@ -40,6 +41,7 @@ pub struct Number {
     pub next: usize,
 }
 
+// Kept: a place in the file, here and in pbm's header, whose definitions go by places (`HeaderRead`).
 // Reads the digits of `file` from `at` on, however many, as a number; one above the limit is read as the limit.
 pub fn read_number(file: &[u8], at: usize, limit: usize) -> Number
     requires { (at ≤ length file.now) × (limit < 4294967296) }

@@ -72,7 +72,9 @@ fn centred_cell(side: usize, bytes: &[u8], row: usize, col: usize) -> u8
     }
 }
 
-// An accepted element as seven rows of seven cells.
+// An accepted element as seven rows of seven cells. Kept: loops, here and below; the check did not find the rows of what
+// `array::from_fn` makes (tried). Kept: side and bytes apart, since a struct of both would hold a reference, and each clause would
+// say `x.entry.bytes.now`.
 pub fn cells_of(side: usize, bytes: &[u8]) -> [[u8; 7]; 7]
     requires { (is_side side ≡ true) × (length bytes.now ≡ side * side) }
     ensures { result ≡ centred side bytes.now }
@@ -128,10 +130,8 @@ fn fill_reflected(side: usize, bytes: &[u8], out: &mut [u8])
     requires { (is_side side ≡ true) × ((length bytes.now ≡ side * side) × (length out.old ≡ length bytes.now)) }
     ensures { out.new ≡ reflected_bytes side bytes.now }
 {
-    let count = bytes.len();
-    for k in 0..count {
-        out[k] = bytes[count - 1 - k];
-    }
+    out.copy_from_slice(bytes);
+    out.reverse();
 }
 
 // Public: fills `out` with the element reflected, the cell at each b taking the byte at -b. Refusals 4, 5, 6, 7, 11.

@@ -98,11 +98,9 @@ start_is r other taken is n small {bounds} {on} {off} is_bounds is_on is_off fir
 -- and it may be finished
 pub back_ready : {r other : Record} {first second marked : List ℕ} (n : ℕ) → Ready r first second → other ≡ back r
     → marked ≡ back_start r first n
-    → (foreign other ≡ false) × ((other.rows ≡ 0) × (length marked ≡ area_height other * area_width other))
-back_ready {r} {first = first} n given is e = rw (is, e) (
-  back_taken r given.taken,
-  (refl, start_length r first n ∙ given.first_size ∙ sym (ap₂ (λ h w. h * w) (back_height r) (back_width r))),
-)
+    → (other.rows ≡ 0) × (length marked ≡ area_height other * area_width other)
+back_ready {r} {first = first} n given is e =
+    rw (is, e) (refl, start_length r first n ∙ given.first_size ∙ sym (ap₂ (λ h w. h * w) (back_height r) (back_width r)))
 
 -- the bounds after the way back are those of its record
 pub held_after : (r other : Record) → foreign r ≡ false → other ≡ back r → (n : ℕ) → n ≤ largest_size → {bounds : Bounds}

@@ -51,36 +51,7 @@ module _ (input : Input) (sheet bytes lent : List ℕ) where
       sym (erosion_fits input.width input.height sheet input.side bytes lent t.common
       (t.work_size ∙ ap₂ (λ h w. h * w) (no_margin input.side input.height) (no_margin input.side input.width)))
 
-  module _ (plan : Plan) (z : Accepts plan) {number : ℕ} {after : Record × List ℕ} where
-    pub dilation_begun : plan.closing ≡ true
-        → StartsDilation input.width input.height sheet input.side bytes (cap_of plan) lent number after
-        → (number ≡ 0) × Begun plan after.0 after.1
-    dilation_begun e = go plan.closing e z
-      where
-        go : (t : Bool) → t ≡ true → Accepts (plan_of t plan.size plan.packed)
-            → StartsDilation input.width input.height sheet input.side bytes (cap_of (plan_of t plan.size plan.packed)) lent number after
-            → (number ≡ 0) × Begun (plan_of t plan.size plan.packed) after.0 after.1
-        go true e z a =
-            let n = a.refusal ∙ dilation_accepts plan.size plan.packed z in
-            let q = a.accepted n in
-            (n, (ap (λ t. t.0) q, ap (λ t. t.1) q))
-        go false e z a = absurd (false≢true e)
-
-    pub erosion_begun : plan.closing ≡ false
-        → StartsErosion input.width input.height sheet input.side bytes lent number after
-        → (number ≡ 0) × Begun plan after.0 after.1
-    erosion_begun e = go plan.closing e z
-      where
-        go : (t : Bool) → t ≡ false → Accepts (plan_of t plan.size plan.packed)
-            → StartsErosion input.width input.height sheet input.side bytes lent number after
-            → (number ≡ 0) × Begun (plan_of t plan.size plan.packed) after.0 after.1
-        go true e z a = absurd (false≢true (sym e))
-        go false e z a =
-            let n = a.refusal ∙ erosion_accepts plan.size plan.packed z in
-            let q = a.accepted n in
-            (n, (ap (λ t. t.0) q, ap (λ t. t.1) q))
-
-  -- it is a run that a start gives
+  -- the first record and its start levels are a run that a start gives
   pub first_start_lem : (plan : Plan) → Accepts plan → IsStart (first_record input bytes plan) (first_start input sheet bytes plan)
   first_start_lem plan = go plan.closing plan.size plan.packed
     where
@@ -100,10 +71,14 @@ module _ (input : Input) (sheet bytes lent : List ℕ) where
     abbrev levels : List ℕ
     levels = first_levels input sheet bytes plan
 
+    -- it is a run that a start gave
+    pub first_taken : {run : Record} {begun : List ℕ} → Begun plan run begun → foreign run ≡ false
+    first_taken (p, q) = rw p (first_start_lem plan z).taken
+
     -- what finishing it asks, and gives
     pub first_fresh : {run : Record} {begun : List ℕ} → Begun plan run begun
-        → (foreign run ≡ false) × ((run.rows ≡ 0) × (length begun ≡ area_height run * area_width run))
-    first_fresh (p, q) = let s = first_start_lem plan z in rw (p, q) (s.taken, (s.fresh, s.size))
+        → (run.rows ≡ 0) × (length begun ≡ area_height run * area_width run)
+    first_fresh (p, q) = let s = first_start_lem plan z in rw (p, q) (s.fresh, s.size)
 
     pub first_finished : {run : Record} {begun after : List ℕ} → Begun plan run begun → after ≡ finished run begun
         → (run ≡ r) × (after ≡ levels)

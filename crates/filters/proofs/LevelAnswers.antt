@@ -46,12 +46,3 @@ module _ (input : Input) (sheet bytes : List ℕ) (plan : Plan) (lent : Buffers)
       plan_room input sheet bytes plan lent z false levels_asked p,
     ),
   )
-
-  pub levels_answered : (after : Buffers) → after.first ≡ replicate (length levels) 0
-      → after.second ≡ replicate (length lent.second) 0 → FindsLevels run levels plan after.out
-      → LevelsAnswered input sheet bytes plan lent 0 after
-  levels_answered after a b finds =
-      accepts after z (
-        plan_cleared input sheet bytes plan lent z p a b,
-        (rw p.0 at (finds input sheet bytes (plan_run input sheet bytes plan lent z p))),
-      )

@@ -1,5 +1,6 @@
 -- The four calls as one: what a call is refused for, its first run, the sizes that it goes through, and what it answers.
-use Rattle.std.specs.Prelude.{ℕ, ◌+◌, ◌*◌, ◌≤◌, ◌<◌, ◌≡◌, Bool, true, false, not, cond, ◌↔◌, List, [], ◌∷◌, ◌++◌, eqb, ltb, pos, length, get_or}
+use Rattle.std.specs.Prelude.{ℕ, ◌+◌, ◌*◌, ◌≤◌, ◌<◌, ◌≡◌, Bool, true, false, not, cond, ◌↔◌, List, [], ◌∷◌, ◌++◌, eqb, ltb, pos, length, get_or, Result, Ok, Err}
+use Rattle.basics.specs.declared.refusal.Refusal as declared
 use Rattle.basics.specs.Limits.{largest_size, highest_cap}
 use Rattle.basics.specs.Refusals.{Refusal, first, Answers}
 use Rattle.grid.specs.Points.{Point, at}
@@ -7,6 +8,7 @@ use Rattle.grid.specs.Sets.{PointSet, opened, closed}
 use Rattle.grid.specs.Levels.{IsOpeningLevel, IsClosingLevel}
 use Rattle.sheet.specs.Sheets.{row_bytes}
 use Rattle.run.specs.declared.Record.{Record}
+use Rattle.run.specs.declared.sound.Sound.{Sound}
 use Rattle.run.specs.declared.kinds.Kind.TheVariants.{Eroding, Dilating}
 use Rattle.run.specs.Records.{empty_record}
 use Rattle.run.specs.Starting.{start_record, start_levels, canvas_refusals}
@@ -56,6 +58,11 @@ first_start input sheet bytes plan = start_levels (first_record input bytes plan
 
 abbrev pub first_levels : Input → List ℕ → List ℕ → Plan → List ℕ
 first_levels input sheet bytes plan = finished (first_record input bytes plan) (first_start input sheet bytes plan)
+
+-- the record of a call's first run; beside a refusal none
+abbrev pub record_in : Result Sound declared.Refusal → Record
+record_in (Ok s) = s.run
+record_in (Err _) = empty_record
 
 -- no level of an opening's first run is above the largest size, nor is a closing's cap above the highest
 pub record Bounded (plan : Plan) (levels : List ℕ) : Type 0 where

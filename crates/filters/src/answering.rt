@@ -1,13 +1,13 @@
 // The answer to a plan: it is judged, its first run is finished, and the way back is taken from there.
 ghost use Rattle.std.specs.Prelude.{◌≡◌, true, false, length};
-ghost use Rattle.basics.specs.Refusals.{first, number, value_or};
-ghost use Rattle.run.specs.Records.{empty_record};
-ghost use Rattle.filters.specs.Plans.{start_refusals, first_record, first_start, first_levels};
+ghost use Rattle.basics.specs.Refusals.{first, number};
+ghost use Rattle.filters.specs.Plans.{record_in, start_refusals, first_record, first_start, first_levels};
 ghost use Rattle.filters.specs.Plans.{FirstAnswered, SheetAnswered, LevelsAnswered};
 
 use super::judging::{Lengths, Plan};
 use super::{Input, back, judging, levels};
 use basics::Refusal;
+use run::sound::Sound;
 use run::{Record, starting};
 
 // Starts the first run: a dilation on the canvas of a closing's size, or an erosion of the frame.
@@ -24,14 +24,15 @@ fn start_run(input: Input, sheet: &[u8], bytes: &[u8], plan: Plan, levels: &mut 
 }
 
 // The first run, all its rows worked.
-pub fn first_run(input: Input, sheet: &[u8], bytes: &[u8], plan: Plan, levels: &mut [u16]) -> Record
+pub fn first_run(input: Input, sheet: &[u8], bytes: &[u8], plan: Plan, levels: &mut [u16]) -> Sound
     requires { first (start_refusals input sheet.now bytes.now plan (length levels.old)) ≡ 0 }
-    ensures { (result ≡ first_record input bytes.now plan) ×
+    ensures { (result.run ≡ first_record input bytes.now plan) ×
         (levels.new ≡ first_levels input sheet.now bytes.now plan) }
 {
     let run = start_run(input, sheet, bytes, plan, levels);
-    back::finish(run, levels);
-    run
+    let sound = Sound { run };
+    back::finish(sound, levels);
+    sound
 }
 
 // The same where the plan is accepted.
@@ -43,10 +44,10 @@ fn accepted_run(
     levels: &mut [u16],
     second: usize,
     out: usize,
-) -> Result<Record, Refusal>
+) -> Result<Sound, Refusal>
     ensures { FirstAnswered input sheet.now bytes.now plan
         (record { first = length levels.old; second = second; out = out }) levels.old
-        (number result) (value_or empty_record result, levels.new) }
+        (number result) (record_in result, levels.new) }
 {
     let lent = Lengths {
         first: levels.len(),
@@ -72,12 +73,13 @@ pub fn answer_sheet(
         (record { first = first.old; second = second.old; out = out.old }) (number result)
         (record { first = first.new; second = second.new; out = out.new }) }
 {
-    let run = accepted_run(input, sheet, bytes, plan, first, second.len(), out.len())?;
-    back::filter_sheet(run, plan.size, first, second, out);
+    let sound = accepted_run(input, sheet, bytes, plan, first, second.len(), out.len())?;
+    back::filter_sheet(sound, plan.size, first, second, out);
     Ok(())
 }
 
 // Fills `out` with the levels that a plan asks for.
+// Kept: two functions, since the contracts' `Buffers` hold numbers, which an output of a type parameter does not.
 pub fn answer_levels(
     input: Input,
     sheet: &[u8],
@@ -92,7 +94,7 @@ pub fn answer_levels(
         (record { first = first.old; second = second.old; out = out.old }) (number result)
         (record { first = first.new; second = second.new; out = out.new }) }
 {
-    let run = accepted_run(input, sheet, bytes, plan, first, second.len(), out.len())?;
-    levels::filter_levels(run, plan, first, second, out);
+    let sound = accepted_run(input, sheet, bytes, plan, first, second.len(), out.len())?;
+    levels::filter_levels(sound, plan, first, second, out);
     Ok(())
 }

@@ -9,6 +9,7 @@ use basics::Refusal;
 use run::starting;
 
 // An opening or a closing, by a size or up to a cap, into a packed sheet or into levels.
+// Kept: two flags; an enum of an opening and a closing would say no more, and the definitions choose by the flags (`size_at`).
 #[derive(Clone, Copy)]
 pub struct Plan {
     pub closing: bool,

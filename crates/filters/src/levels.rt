@@ -1,17 +1,17 @@
 // Levels by going through the sizes: each size that holds a point is written over what was found before.
-ghost use Rattle.std.specs.Prelude.{◌≡◌, false, ◌+◌, ◌*◌, ◌≤◌, ◌<◌, length, get_or, replicate};
+ghost use Rattle.std.specs.Prelude.{◌≡◌, ◌+◌, ◌*◌, ◌≤◌, ◌<◌, length, get_or, replicate};
 ghost use Rattle.basics.specs.Limits.{largest_size};
 ghost use Rattle.basics.specs.Tables.{table, raster};
-ghost use Rattle.run.specs.Records.{area_width, area_height, foreign};
+ghost use Rattle.run.specs.Records.{area_width, area_height};
 ghost use Rattle.run.specs.Patches.{Canvas, level_in};
 ghost use Rattle.filters.specs.Back.{chosen, stored, size_at, Highest, Ready};
 ghost use Rattle.filters.specs.Plans.{Bounded, Counted, FindsSize, FindsLevels};
 
 use super::back;
 use super::judging::Plan;
-use run::Record;
 use run::kinds::Bounds;
-use run::records::{self, Frame};
+use run::records::Frame;
+use run::sound::Sound;
 
 // The entries of `out` become `value` where the levels are held. Each entry is read and stored whatever its level, which takes no
 // branch: ten times as fast as a store or a read under the `if` (measured).
@@ -45,25 +45,26 @@ fn store_frame(levels: &[u16], frame: Frame, bounds: Bounds, value: u16, out: &m
 }
 
 // Stores a size and one at the points that are held after the way back.
-fn store_held(run: Record, size: usize, second: &[u16], out: &mut [u16])
-    requires { (foreign run ≡ false) × ((length second.now ≡ area_height run * area_width run) × ((size ≤ largest_size) ×
-        (length out.old ≡ run.height * run.width))) }
-    ensures { out.new ≡ stored run second.now size out.old }
+fn store_held(sound: Sound, size: usize, second: &[u16], out: &mut [u16])
+    requires { (length second.now ≡ area_height sound.run * area_width sound.run) × ((size ≤ largest_size) ×
+        (length out.old ≡ sound.run.height * sound.run.width)) }
+    ensures { out.new ≡ stored sound.run second.now size out.old }
 {
-    let bounds = back::back_bounds(run, size);
+    let bounds = back::back_bounds(sound, size);
     let value = size as u16 + 1;
-    store_frame(second, records::frame_of(run), bounds, value, out);
+    store_frame(second, sound.frame(), bounds, value, out);
 }
 
 // Stores one size.
-fn one_size(run: Record, size: usize, first: &[u16], second: &mut [u16], out: &mut [u16])
-    requires { Ready run first.now second.old × ((size ≤ largest_size) × (length out.old ≡ run.height * run.width)) }
+fn one_size(sound: Sound, size: usize, first: &[u16], second: &mut [u16], out: &mut [u16])
+    requires { Ready sound.run first.now second.old × ((size ≤ largest_size) ×
+        (length out.old ≡ sound.run.height * sound.run.width)) }
     ensures { (length second.new ≡ length second.old) ×
-        (FindsSize run first.now size second.new ×
-        (out.new ≡ stored run second.new size out.old)) }
+        (FindsSize sound.run first.now size second.new ×
+        (out.new ≡ stored sound.run second.new size out.old)) }
 {
-    back::find_size(run, size, first, second);
-    store_held(run, size, second, out);
+    back::find_size(sound, size, first, second);
+    store_held(sound, size, second, out);
 }
 
 // The size that step k of `count` takes: an opening goes up, a closing down, so that the size that must stand is written last.
@@ -76,19 +77,19 @@ fn size_at(closing: bool, count: usize, k: usize) -> usize
 
 // The sizes below `count`, one after the other, over levels that are 0.
 fn go_through(
-    run: Record,
+    sound: Sound,
     plan: Plan,
     count: usize,
     first: &[u16],
     second: &mut [u16],
     out: &mut [u16],
 )
-    requires { Ready run first.now second.old × (Bounded plan first.now × (Counted plan first.now count ×
-        (out.old ≡ replicate (run.height * run.width) 0))) }
-    ensures { FindsLevels run first.now plan out.new }
+    requires { Ready sound.run first.now second.old × (Bounded plan first.now × (Counted plan first.now count ×
+        (out.old ≡ replicate (sound.run.height * sound.run.width) 0))) }
+    ensures { FindsLevels sound.run first.now plan out.new }
 {
     for k in 0..count {
-        one_size(run, size_at(plan.closing, count, k), first, second, out);
+        one_size(sound, size_at(plan.closing, count, k), first, second, out);
     }
 }
 
@@ -114,21 +115,21 @@ fn count_of(plan: Plan, levels: &[u16]) -> usize
 
 // The levels of a plan from its finished first run; both work buffers are cleared.
 pub fn filter_levels(
-    run: Record,
+    sound: Sound,
     plan: Plan,
     first: &mut [u16],
     second: &mut [u16],
     out: &mut [u16],
 )
-    requires { Ready run first.old second.old × (Bounded plan first.old ×
-        (length out.old ≡ run.height * run.width)) }
+    requires { Ready sound.run first.old second.old × (Bounded plan first.old ×
+        (length out.old ≡ sound.run.height * sound.run.width)) }
     ensures { (first.new ≡ replicate (length first.old) 0) ×
         ((second.new ≡ replicate (length second.old) 0) ×
-        FindsLevels run first.old plan out.new) }
+        FindsLevels sound.run first.old plan out.new) }
 {
     out.fill(0);
     let count = count_of(plan, first);
-    go_through(run, plan, count, first, second, out);
+    go_through(sound, plan, count, first, second, out);
     first.fill(0);
     second.fill(0);
 }

@@ -13,6 +13,7 @@ use basics::Refusal;
 pub use run::Input;
 
 // Public: fills `out` with the sheet opened by a size. Refusals 2 to 8, 10, 11.
+// Kept: this and the next three, each with a promise and theorems of its own; what they share is one `Plan`, answered in one place.
 pub fn open(
     input: Input,
     sheet: &[u8],

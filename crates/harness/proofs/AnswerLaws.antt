@@ -126,13 +126,6 @@ module _ (L : List Refusal) (t : T (numbered L)) (short : Bool) where
 
   -- judged with another room
   module _ (other : Bool) where
-    pub room_zero : first (L ++ (11, other) ∷ []) ≡ 0 → 11 ≡ first (L ++ (11, short) ∷ (11, true) ∷ [])
-    room_zero e = go (ℕ_discrete (first L) 0)
-      where
-        go : Dec (first L ≡ 0) → 11 ≡ first (L ++ (11, short) ∷ (11, true) ∷ [])
-        go (yes z) = room_none z
-        go (no n) = absurd (n (sym (first_refused L ((11, other) ∷ []) n) ∙ e))
-
     pub room_some : (n : ℕ) → n ≢ 0 → n ≡ first (L ++ (11, other) ∷ []) → n ≡ first (L ++ (11, short) ∷ (11, true) ∷ [])
     room_some n z e = go (ℕ_discrete (first L) 0)
       where

@@ -6,18 +6,19 @@ ghost use Rattle.harness.specs.Boundary.{at_latest, answered};
 
 use basics::Refusal;
 
-// The number of a call: 0 where it is accepted.
-pub fn number(answer: Result<(), Refusal>) -> u32
+// The number of a call: 0 where it is accepted. Kept: the calls that store more than one value `match` on their own, each with its
+// slices; a helper that took a closure over these would be no shorter.
+pub fn number<T: Copy>(answer: Result<T, Refusal>) -> u32
     ensures { result ≡ number answer }
 {
     match answer {
-        Ok(()) => 0,
+        Ok(_) => 0,
         Err(refusal) => refusal.number(),
     }
 }
 
 // 11, unless the call is refused by a lower number.
-pub fn at_latest(judged: Result<(), Refusal>) -> u32
+pub fn at_latest<T: Copy>(judged: Result<T, Refusal>) -> u32
     ensures { result ≡ at_latest (number judged) }
 {
     let number = number(judged);

@@ -1,4 +1,5 @@
 // The library's boundary to C: each call of the library as a plain C function over numbers and slices.
+// Kept in all its modules, since C calls them: numbers for refusals, numbers one by one, and a function for each call.
 #![tactic(auto)]
 
 pub mod answers;

@@ -62,8 +62,8 @@ pub extern "C" fn wt_provisional(
     }
 }
 
-// Public: works the allowance of rows or what is due, the lesser. Of `answer` the first word becomes 1 when all rows are done, else 0,
-// and the second how many points the rows lowered. Refusals 1, 10, 11, 12.
+// Public: works the allowance of rows or what is due, the lesser. Of `answer` the first word becomes 1 when all rows are done, else
+// 0, and the second how many points the rows lowered. Refusals 1, 10, 11, 12.
 #[unsafe(no_mangle)]
 pub extern "C" fn wt_continue(
     words: &mut [u64],

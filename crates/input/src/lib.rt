@@ -11,6 +11,7 @@ pub fn read_full(input: &mut impl Read, room: &mut [u8]) -> io::Result<usize>
     ensures { IfOk result (λ n. n ≤ length room.new) }
 {
     let mut done = 0;
+    // Kept: it counts the bytes read and not its turns, of which nobody knows how many there are.
     while done < room.len() {
         let count = input.read(&mut room[done..])?;
         if count == 0 {

@@ -22,9 +22,8 @@ use Rattle.scan.specs.Starts.{OwnStart, DilationStart, on_canvas}
 use Rattle.scan.proofs.Dilation.{found_frame, found_by_sizes}
 use Rattle.scan.proofs.ScanLaws.{rows_length}
 use Rattle.run.specs.declared.Record.{Record}
-use Rattle.run.specs.Records.{area_width, area_height, area_of, due, margin, record_bad}
-use Rattle.run.specs.Starting.{start_levels, begun, framed, dilation_refusals, StartsDilation}
-use Rattle.run.specs.Patches.{Canvas}
+use Rattle.run.specs.Records.{area_width, area_height, area_of, due, margin, foreign, record_bad}
+use Rattle.run.specs.Starting.{start_levels, framed, dilation_refusals, StartsDilation}
 use Rattle.run.specs.Kinds.{is_held_at}
 use Rattle.run.specs.Provisional.{provisional_refusals}
 use Rattle.run.specs.Series.{dilation}
@@ -36,7 +35,7 @@ use Rattle.run.proofs.PictureAnswers.{view_accepted}
 use Rattle.run.proofs.RecordLaws.{sound, bad_rows}
 use Rattle.run.proofs.Started.{IsStart, is_start}
 use Rattle.run.proofs.StartLevels.{framed_on, place_is}
-use Rattle.run.proofs.Starts.{Judged, judged, dilation_taken, canvas_taken, canvas_area}
+use Rattle.run.proofs.Starts.{Judged, judged, dilation_taken, canvas_taken}
 use Rattle.run.specs.declared.Input.{Input}
 use Rattle.filters.specs.Filters.{IsSheet, foreground_of, element_of}
 use Rattle.filters.proofs.SheetAnswers.{tested_sheet}
@@ -66,20 +65,12 @@ module _ (input : Input) (sheet bytes : List ℕ) (cap : ℕ) (lent : List ℕ)
   plain = dilation_start input.width input.height sheet input.side bytes input_judged.element cap
       (sound r is_started.taken)
 
-  -- what the start answers, and its levels raised
-  module _ {number : ℕ} {run : Record} {levels : List ℕ}
-      (a : StartsDilation input.width input.height sheet input.side bytes cap lent number (run, levels))
-      {m : ℕ} (is : m ≡ margin r) where
-    begun_is : (run, levels) ≡ begun r sheet
-    begun_is = a.accepted (a.refusal ∙ z)
+  -- what the start answers is a record that a start could give
+  pub start_taken : {number : ℕ} {run : Record} {levels : List ℕ}
+      → StartsDilation input.width input.height sheet input.side bytes cap lent number (run, levels) → foreign run ≡ false
+  start_taken a = rw (ap (λ t. t.0) (a.accepted (a.refusal ∙ z))) is_started.taken
 
-    pub start_canvas : Canvas input.width input.height m levels
-    start_canvas =
-        let c = canvas_area input.width input.height cap input.side lent
-        (dilation_taken input.width input.height sheet input.side bytes cap lent z).2 in
-        rw (is, ap (λ t. t.1) begun_is) (record { wide = c.wide; high = c.high; room = is_started.size })
-
-  -- the same with the levels raised by a map
+  -- what the start gives, with the levels raised by a map
   module _ (map : List ℕ) {run : Record} {levels : List ℕ} (s : StartsByMap input sheet bytes cap map run levels) where
     abbrev own : Point → ℕ
     own a = suc cap - size_of input map a

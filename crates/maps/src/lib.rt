@@ -1,5 +1,5 @@
-// Dilating each foreground point by a size of its own, which a lent map gives: one scan, from levels that start with R + 1 - S(a) at
-// each foreground point a.
+// Dilating each foreground point by a size of its own, which a lent map gives: one scan, from levels that start with R + 1 - S(a)
+// at each foreground point a.
 #![tactic(auto)]
 
 ghost use Rattle.std.specs.Prelude.{◌≡◌, false, ◌||◌, ◌+◌, ◌*◌, ◌<◌, ◌≤◌, ltb, length, get_or, replicate};
@@ -17,9 +17,11 @@ ghost use Rattle.maps.specs.Raising.{raised, Raised, StartsByMap, Fits, above_fr
 use basics::Refusal;
 use filters::Input;
 use run::records::Frame;
-use run::{Record, starting};
+use run::sound::Sound;
+use run::starting;
 
-// Whether the map has a size above the cap at a row and a column, and a foreground point stands there.
+// Whether the map has a size above the cap at a row and a column, and a foreground point stands there. Kept: sheet and map apart,
+// since a struct of both would hold references.
 fn is_above(input: Input, sheet: &[u8], map: &[u16], cap: usize, row: usize, col: usize) -> bool
     requires { Fits input sheet.now map.now × ((row < input.height) × (col < input.width)) }
     ensures { result ≡ ltb cap (get_or (sizes_seen input sheet.now map.now) (row * input.width + col) 0) }
@@ -29,7 +31,7 @@ fn is_above(input: Input, sheet: &[u8], map: &[u16], cap: usize, row: usize, col
     (pixel == 1) & (cap < usize::from(map[place]))
 }
 
-// Whether it has one in a row. Nothing branches on a size or a pixel, which follow no pattern.
+// Whether it has one in a row. Kept: a loop that branches on no size and no pixel, as `any` would; they follow no pattern.
 fn any_in_row(input: Input, sheet: &[u8], map: &[u16], cap: usize, row: usize) -> bool
     requires { Fits input sheet.now map.now × (row < input.height) }
     ensures { result || above_from cap (sizes_seen input sheet.now map.now) (row * input.width + input.width)
@@ -136,25 +138,26 @@ fn start_by_map(
     cap: usize,
     map: &[u16],
     work: &mut [u16],
-) -> Record
+) -> Sound
     requires { (first (dilation_refusals input.width input.height sheet.now input.side bytes.now cap work.old) ≡ 0) ×
         (length map.now ≡ frame_size input) }
-    ensures { StartsByMap input sheet.now bytes.now cap map.now result work.new }
+    ensures { StartsByMap input sheet.now bytes.now cap map.now result.run work.new }
 {
     let run = starting::start_dilation(input, sheet, bytes, cap, work).unwrap();
     let most = cap as u16 + 1;
-    raise_frame(work, run::records::frame_of(run), map, most);
-    run
+    let sound = Sound { run };
+    raise_frame(work, sound.frame(), map, most);
+    sound
 }
 
 // Works all rows of a started run, and fills `out` with the sheet that it holds at its cap; the work buffer becomes all zero.
-fn finish_sheet(run: Record, work: &mut [u16], out: &mut [u8])
-    requires { Finishes run work.old out.old }
+fn finish_sheet(sound: Sound, work: &mut [u16], out: &mut [u8])
+    requires { Finishes sound.run work.old out.old }
     ensures { (work.new ≡ replicate (length work.old) 0) ×
-        (out.new ≡ thresholded run (finished run work.old) run.cap) }
+        (out.new ≡ thresholded sound.run (finished sound.run work.old) sound.run.cap) }
 {
-    filters::back::finish(run, work);
-    run::pictures::pack_held(run, work, run.cap, out);
+    filters::back::finish(sound, work);
+    run::pictures::pack_held(sound, work, sound.run.cap, out);
     work.fill(0);
 }
 
@@ -174,7 +177,7 @@ pub fn dilate_by_map(
         (record { work = work.new; out = out.new }) }
 {
     check_map(input, sheet, bytes, cap, map, work, out)?;
-    let run = start_by_map(input, sheet, bytes, cap, map, work);
-    finish_sheet(run, work, out);
+    let sound = start_by_map(input, sheet, bytes, cap, map, work);
+    finish_sheet(sound, work, out);
     Ok(())
 }

@@ -2,7 +2,7 @@
 -- call.
 use Prim.Native.Nat.{ℕ, ◌+◌, ◌-◌, ◌*◌, ◌≤◌, ◌<◌}
 use native.Mathlib.Omega.{arith}
-use mathlib.Core.Path.{◌≡◌, sym, ap, ap₂, ◌∙◌}
+use mathlib.Core.Path.{◌≡◌, refl, sym, ap, ap₂, ◌∙◌}
 use mathlib.Core.Logic.{◌≢◌}
 use mathlib.Core.List.{List, [], ◌∷◌, ◌++◌, append_assoc}
 use lib.ListN.{length, take, drop, length-append, length-drop}
@@ -16,8 +16,7 @@ use Rattle.decimal.proofs.NumberLaws.{length_below}
 use Rattle.sheet.specs.Sheets.{row_bytes, sheet_refusals}
 use Rattle.sheet.proofs.FrameLaws.{frame_sides, raster_small, sheet_accepted}
 use Rattle.text.specs.Writing.{begun, Wrote}
-use Rattle.text.proofs.WroteLaws.{wrote_both, wrote_length, wrote_front, wrote_part}
-use Rattle.text.proofs.WroteLaws.{part_is}
+use Rattle.text.proofs.WroteLaws.{length_begun, wrote_both, part_is}
 use Rattle.pbm.specs.Pbm.{cleared, pbm_header, pbm_text, room_refusals, WritesPbm}
 use Rattle.pbm.proofs.PackingLaws.{length_cleared}
 
@@ -85,14 +84,11 @@ module _ (width height : ℕ) (sheet out : List ℕ) where
         header_room = let h = length_header width height in omega arith
 
         -- the header stands in the output; the rest is lent for the raster
-        module _ {at : ℕ} {now : List ℕ} (h : Wrote (pbm_header width height) 0 out now at) where
-          same_length : length now ≡ length out
-          same_length = wrote_length (pbm_header width height) 0 out now at (let r = header_room in omega arith) h
-
+        module _ {at : ℕ} {now : List ℕ} (h : Wrote (pbm_header width height) out now at) where
           pub part_room : height * row_bytes width ≤ length (take (length now - at) (drop at now))
           part_room =
-              let o = same_length in
-              let p = h.place in
+              let o = ap length h.1 ∙ length_begun (pbm_header width height) out header_room in
+              let p = h.0 in
               let d = ap length (part_is at now) ∙ length-drop at now in
               let n = length_header width height in
               let q = sheet_size_lem in
@@ -103,9 +99,7 @@ module _ (width height : ℕ) (sheet out : List ℕ) where
           unfolding pbm_text
           write_accepts {part} q =
               let o = size_is in
-              let r : 0 + length (pbm_header width height ++ cleared width height sheet) ≤ length out = omega arith in
-              let w = wrote_both (pbm_header width height) (cleared width height sheet) 0 out r h
-              (wrote_part (cleared width height sheet) part now at q) in
+              let w = wrote_both (pbm_header width height) (cleared width height sheet) out now part at _ h (refl, q) in
               accepts (size, put_mid at (length now - at) now part)
               (room_left ∙ rw (le-ltb (length out) (length (pbm_text width height sheet)) (omega arith)))
-              (ap₂ (λ n text. (n, text)) size_is (wrote_front w).1)
+              (ap₂ (λ n text. (n, text)) size_is w.1)

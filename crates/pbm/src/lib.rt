@@ -19,7 +19,7 @@ pub struct Frame {
     pub height: usize,
 }
 
-// Blank, TAB, CR or LF; std's `is_ascii_whitespace` would take a form feed too.
+// Blank, TAB, CR or LF. Kept: std's `is_ascii_whitespace` would take a form feed too.
 #[tactic(auto, unfolding(crate::specs::Header::is_white))]
 fn is_white(byte: u8) -> bool
     ensures { result ≡ is_white byte }
@@ -133,13 +133,14 @@ pub fn read_pbm(file: &[u8], out: &mut [u8]) -> Result<Frame, Refusal>
     Ok(frame)
 }
 
-// Writes "P4", LF, the width, a blank, the height and LF to the front of `out`, and gives the place after them.
+// Writes "P4", LF, the width, a blank, the height and LF to the front of `out`, and gives their length.
+#[tactic(auto, unfolding(crate::specs::Pbm::pbm_header))]
 fn write_header(frame: Frame, out: &mut [u8]) -> usize
     requires { length (pbm_header frame.width frame.height) ≤ length out.old }
-    ensures { Wrote (pbm_header frame.width frame.height) 0 out.old out.new result }
+    ensures { Wrote (pbm_header frame.width frame.height) out.old out.new result }
 {
-    let end = text::write_pair(b"P4\n", frame.width, b" ", frame.height, out, 0);
-    text::write_bytes(b"\n", out, end)
+    let end = text::write_pair(b"P4\n", frame.width, b" ", frame.height, out);
+    end + text::write_bytes(b"\n", &mut out[end..])
 }
 
 // Public: writes a sheet as a raw PBM file to the front of `out`, and gives its length. Refusals 2, 3, 11.

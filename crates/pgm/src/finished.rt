@@ -1,19 +1,19 @@
 // Writing the collected levels of a finished run.
-ghost use Rattle.std.specs.Prelude.{◌≡◌, false};
+ghost use Rattle.std.specs.Prelude.{◌≡◌, IfOk};
 ghost use Rattle.basics.specs.Bounds.{any_above};
 ghost use Rattle.basics.specs.Refusals.{first, number, value_or};
-ghost use Rattle.run.specs.Records.{foreign};
 ghost use Rattle.pgm.specs.WritePgm.{maximum, header_of, pgm_refusals, WritesPgm};
 
 use super::Header;
 use basics::Refusal;
-use run::{Record, kinds};
+use run::sound::Sound;
+use run::{Record, kinds, records};
 
 // The maximum that the picture states.
-fn maximum_of(run: Record) -> usize
-    requires { foreign run ≡ false }
-    ensures { result ≡ maximum run }
+fn maximum_of(sound: Sound) -> usize
+    ensures { result ≡ maximum sound.run }
 {
+    let run = sound.run;
     kinds::by_kind(
         kinds::kind_of(run),
         run.width.max(run.height),
@@ -23,16 +23,15 @@ fn maximum_of(run: Record) -> usize
 }
 
 // What the picture states before its levels.
-fn header_of(run: Record) -> Header
-    requires { foreign run ≡ false }
-    ensures { result ≡ header_of run }
+fn header_of(sound: Sound) -> Header
+    ensures { result ≡ header_of sound.run }
 {
     Header {
-        done: run.rows,
-        due: run::records::rows_due(run),
-        width: run.width,
-        height: run.height,
-        maximum: maximum_of(run),
+        done: sound.run.rows,
+        due: sound.rows_due(),
+        width: sound.run.width,
+        height: sound.run.height,
+        maximum: maximum_of(sound),
     }
 }
 
@@ -43,13 +42,11 @@ fn any_above(limit: usize, levels: &[u16]) -> bool
 }
 
 // Refusals 1, 8, 10, 11 and 13.
-pub fn check_pgm(run: Record, levels: &[u16], out: &[u8]) -> Result<(), Refusal>
-    ensures { number result ≡ first (pgm_refusals run levels.now out.now) }
+pub fn check_pgm(run: Record, levels: &[u16], out: &[u8]) -> Result<Sound, Refusal>
+    ensures { (number result ≡ first (pgm_refusals run levels.now out.now)) × IfOk result (λ sound. sound.run ≡ run) }
 {
-    if run::records::record_bad(run) {
-        return Err(Refusal::Record);
-    }
-    let header = header_of(run);
+    let sound = records::check_record(run)?;
+    let header = header_of(sound);
     if any_above(header.maximum, levels) {
         return Err(Refusal::Size);
     }
@@ -62,7 +59,7 @@ pub fn check_pgm(run: Record, levels: &[u16], out: &[u8]) -> Result<(), Refusal>
     if header.done != header.due {
         return Err(Refusal::RowsDue);
     }
-    Ok(())
+    Ok(sound)
 }
 
 // Public: writes the collected levels of a finished run as plain PGM at the front of `out`, and gives the text's length.
@@ -70,6 +67,6 @@ pub fn check_pgm(run: Record, levels: &[u16], out: &[u8]) -> Result<(), Refusal>
 pub fn write_pgm(run: Record, levels: &[u16], out: &mut [u8]) -> Result<usize, Refusal>
     ensures { WritesPgm run levels.now out.old (number result) (value_or 0 result, out.new) }
 {
-    check_pgm(run, levels, out)?;
-    Ok(super::write_pgm_text(header_of(run), levels, out))
+    let sound = check_pgm(run, levels, out)?;
+    Ok(super::write_pgm_text(header_of(sound), levels, out))
 }

@@ -6,7 +6,8 @@ pub mod finished;
 ghost use Rattle.std.specs.Prelude.{◌≡◌, ◌∷◌, ◌+◌, ◌*◌, ◌<◌, ◌≤◌, length};
 ghost use Rattle.decimal.specs.Numbers.{digits};
 ghost use Rattle.pgm.specs.PgmText.{stays, parting, column_after, level_row, frame_row, levels_text};
-ghost use Rattle.text.specs.Writing.{begun, Wrote};
+ghost use Rattle.text.specs.Writing.{Wrote};
+ghost use Rattle.pgm.specs.Lines.{line_width};
 ghost use Rattle.basics.specs.Limits.{longest_side};
 ghost use Rattle.pgm.specs.Writing.{levels_size, header_text, picture_text, SmallHeader, IsPicture};
 
@@ -55,65 +56,71 @@ fn column_after(column: usize, size: usize) -> usize
 }
 
 // Writes a level that follows `column` characters of a line: its digits, and before them what parts it from the number before.
-// This and the functions below that write give the place after what they wrote.
-fn write_parted(level: usize, column: usize, out: &mut [u8], at: usize) -> usize
-    requires { (column ≤ at) × (at + 1 + length (digits level) ≤ length out.old) }
-    ensures { Wrote (parting column (length (digits level)) ∷ digits level) at out.old out.new result }
+// This and the functions below write to the front of `out` and give the length of what they wrote.
+fn write_parted(level: usize, column: usize, out: &mut [u8]) -> usize
+    requires { (column ≤ line_width) × (1 + length (digits level) ≤ length out.old) }
+    ensures { Wrote (parting column (length (digits level)) ∷ digits level) out.old out.new result }
 {
-    let next = decimal::write_number(level, out, at + 1);
-    out[at] = parting_byte(column, next - at - 1);
-    next
+    let size = decimal::write_number(level, &mut out[1..]);
+    out[0] = parting_byte(column, size);
+    1 + size
 }
 
 // Writes the rest of a frame row, which follows `start` characters of a line, and ends the last line.
-fn write_rest(rest: &[u16], start: usize, out: &mut [u8], at: usize) -> usize
-    requires { (start ≤ at) × (at + length (level_row start rest.now) ≤ length out.old) }
-    ensures { Wrote (level_row start rest.now) at out.old out.new result }
+fn write_rest(rest: &[u16], start: usize, out: &mut [u8]) -> usize
+    requires { (start ≤ line_width) × (length (level_row start rest.now) ≤ length out.old) }
+    ensures { Wrote (level_row start rest.now) out.old out.new result }
 {
     let mut column = start;
-    let mut end = at;
+    let mut end = 0;
     for &level in rest {
-        let next = write_parted(usize::from(level), column, out, end);
-        column = column_after(column, next - end - 1);
-        end = next;
+        let size = write_parted(usize::from(level), column, &mut out[end..]);
+        column = column_after(column, size - 1);
+        end += size;
     }
     out[end] = b'\n';
     end + 1
 }
 
 // Writes a frame row.
-fn write_row(row: &[u16], out: &mut [u8], at: usize) -> usize
-    requires { (0 < length row.now) × (at + length (frame_row row.now) ≤ length out.old) }
-    ensures { Wrote (frame_row row.now) at out.old out.new result }
+fn write_row(row: &[u16], out: &mut [u8]) -> usize
+    requires { (0 < length row.now) × (length (frame_row row.now) ≤ length out.old) }
+    ensures { Wrote (frame_row row.now) out.old out.new result }
 {
-    let next = decimal::write_number(usize::from(row[0]), out, at);
-    write_rest(&row[1..], next - at, out, next)
+    let start = decimal::write_number(usize::from(row[0]), out);
+    start + write_rest(&row[1..], start, &mut out[start..])
 }
 
 // Writes the frame rows one after the other.
-fn write_levels(header: Header, levels: &[u16], out: &mut [u8], at: usize) -> usize
+fn write_levels(header: Header, levels: &[u16], out: &mut [u8]) -> usize
     requires { (0 < header.width) × ((length levels.now ≡ header.height * header.width) ×
-        (at + length (levels_text header.width header.height levels.now) ≤ length out.old)) }
-    ensures { Wrote (levels_text header.width header.height levels.now) at out.old out.new result }
+        (length (levels_text header.width header.height levels.now) ≤ length out.old)) }
+    ensures { Wrote (levels_text header.width header.height levels.now) out.old out.new result }
 {
-    let mut end = at;
+    let mut end = 0;
     for row in levels.chunks_exact(header.width) {
-        end = write_row(row, out, end);
+        end += write_row(row, &mut out[end..]);
     }
     end
 }
 
 // Writes the header, which begins with the magic number of its format.
 #[tactic(auto, unfolding(crate::specs::PgmText::pgm_header))]
-pub fn write_header(magic: &[u8], header: Header, out: &mut [u8], at: usize) -> usize
-    requires { at + length (header_text magic.now header) ≤ length out.old }
-    ensures { Wrote (header_text magic.now header) at out.old out.new result }
+pub fn write_header(magic: &[u8], header: Header, out: &mut [u8]) -> usize
+    requires { length (header_text magic.now header) ≤ length out.old }
+    ensures { Wrote (header_text magic.now header) out.old out.new result }
 {
-    let next = text::write_bytes(magic, out, at);
-    let next = text::write_pair(b"\n# rows ", header.done, b" of ", header.due, out, next);
-    let next = text::write_pair(b"\n", header.width, b" ", header.height, out, next);
-    let next = text::write_labelled(b"\n", header.maximum, out, next);
-    text::write_bytes(b"\n", out, next)
+    let mut end = text::write_bytes(magic, out);
+    end += text::write_pair(
+        b"\n# rows ",
+        header.done,
+        b" of ",
+        header.due,
+        &mut out[end..],
+    );
+    end += text::write_pair(b"\n", header.width, b" ", header.height, &mut out[end..]);
+    end += text::write_labelled(b"\n", header.maximum, &mut out[end..]);
+    end + text::write_bytes(b"\n", &mut out[end..])
 }
 
 // The length of a header whose magic number has two bytes.
@@ -153,9 +160,8 @@ pub fn pgm_length(header: Header, levels: &[u16]) -> usize
 #[tactic(auto, unfolding(crate::specs::PgmText::pgm_text))]
 pub fn write_pgm_text(header: Header, levels: &[u16], out: &mut [u8]) -> usize
     requires { IsPicture header levels.now × (length (picture_text header levels.now) ≤ length out.old) }
-    ensures { (result ≡ length (picture_text header levels.now)) ×
-        (out.new ≡ begun (picture_text header levels.now) out.old) }
+    ensures { Wrote (picture_text header levels.now) out.old out.new result }
 {
-    let start = write_header(b"P2", header, out, 0);
-    write_levels(header, levels, out, start)
+    let start = write_header(b"P2", header, out);
+    start + write_levels(header, levels, &mut out[start..])
 }

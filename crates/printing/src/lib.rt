@@ -21,13 +21,14 @@ pub const MOST_PIXELS: usize = 16384;
 // Room for the picture of so many pixels.
 pub const TEXT_ROOM: usize = 98432;
 
-// Writes "refused", a blank, the number and LF to the front of `out`, and gives the text's length.
+// Writes "refused", a blank, the number and LF to the front of `out`, and gives the text's length. Kept: its bytes are promised, as
+// none of `Display`'s are.
 fn write_refused(number: usize, out: &mut [u8]) -> usize
     requires { (number < 4294967296) × (text_room ≤ length out.old) }
     ensures { Prints (refused_text number) result out.new }
 {
-    let end = text::write_labelled(b"refused ", number, out, 0);
-    text::write_bytes(b"\n", out, end)
+    let end = text::write_labelled(b"refused ", number, out);
+    end + text::write_bytes(b"\n", &mut out[end..])
 }
 
 // Erodes a sheet with the cross, all rows at once, and collects its levels; gives the run's record. No call of it refuses.

@@ -30,8 +30,8 @@ fn lower_each<F: Fn(usize) -> u16>(levels: &mut [u16], offer: F)
     }
 }
 
-// The row, by the partners in the row that a cell leads to, `across` columns on from 3 before. It is not inlined, so that nothing of
-// it is worked out for the cells that are not set.
+// The row, by the partners in the row that a cell leads to, `across` columns on from 3 before. It is not inlined, so that nothing
+// of it is worked out for the cells that are not set.
 #[inline(never)]
 fn by_columns(worked: &mut [u16], partners: &[u16], across: usize, beyond: u16)
     requires { length partners.now ≡ length worked.old }
@@ -106,7 +106,7 @@ fn step_of(set: bool) -> u32
 }
 
 // The level at `at`, lowered to the least of three. It waits for `near` last, which is known last. In 32 bits, a level and a step
-// add up with no limit to test.
+// add up with no limit to test. Kept: a row and an index in it, by which both directions go.
 fn lower_to_least(worked: &mut [u16], at: usize, near: u32, middle: u32, far: u32) -> u32
     requires { at < length worked.old }
     ensures { Lowest worked.old worked.new at near middle far result }
@@ -116,7 +116,9 @@ fn lower_to_least(worked: &mut [u16], at: usize, near: u32, middle: u32, far: u3
     level
 }
 
-// The row, by its partners in the own row, with the three levels worked last in locals.
+// The row, by its partners in the own row, with the three levels worked last in locals. It is not inlined, so that its loops keep
+// all that they need in registers.
+#[inline(never)]
 fn by_three(worked: &mut [u16], upward: bool, one: bool, two: bool, three: bool, beyond: u16)
     ensures { worked.new ≡ own_columns upward (length worked.old) one two three beyond (length worked.old) worked.old }
 {
@@ -155,6 +157,7 @@ fn lower_two(worked: &mut [u16], first: usize, second: usize, near: u32) -> u32
 }
 
 // The row, by its partners in the own row, where the nearest of the three cells is the only one set.
+#[tactic(auto, unfolding(crate::specs::RowRule::place))]
 fn by_nearest(worked: &mut [u16], upward: bool, beyond: u16)
     ensures { worked.new ≡ own_columns upward (length worked.old) true false false beyond (length worked.old) worked.old }
 {
@@ -163,7 +166,8 @@ fn by_nearest(worked: &mut [u16], upward: bool, beyond: u16)
     let width = worked.len();
     for pair in 0..width / 2 {
         let first = column(upward, width, 2 * pair);
-        near = lower_two(worked, first, column(upward, width, 2 * pair + 1), near);
+        let second = if upward { first - 1 } else { first + 1 };
+        near = lower_two(worked, first, second, near);
     }
     if width % 2 == 1 {
         lower_to_least(
@@ -208,6 +212,7 @@ fn settle(stored: &mut [u16], worked: &[u16]) -> usize
     usize::from(fallen)
 }
 
+// Kept: `upward` is a flag here and below, as it is in `row_rule` of the definitions; a direction has no third.
 // The row rule on a part of the levels, the rows of `area`, at row `row` of the part; and how many points it lowers. It works in
 // `worked`, whatever that holds.
 pub fn row_rule(

@@ -4,7 +4,6 @@ pub mod PartLaws
 pub mod LevelLaws
 pub mod PackLaws
 -- records
-pub mod KindLaws
 pub mod RecordLaws
 pub mod ScanCells
 pub mod StartRecords

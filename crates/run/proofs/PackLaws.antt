@@ -27,7 +27,8 @@ module _ (low high : ℕ) (levels : List ℕ) where
   held_fits = front_fits held_at (λ k. held_binary low high (get_or levels k 0))
 
 -- a byte of a row, as the first byte of the levels that are left
-left_as : (low high : ℕ) (levels : List ℕ) (k n : ℕ) → n ≤ length levels - 8 * k → ((i : ℕ) → i < 8 → n ≤ i → length levels ≤ 8 * k + i)
+left_as : (low high : ℕ) (levels : List ℕ) (k n : ℕ) → n ≤ length levels - 8 * k
+    → ((i : ℕ) → i < 8 → n ≤ i → length levels ≤ 8 * k + i)
     → byte_packed n (held_at low high (drop (8 * k) levels)) 0 ≡ byte_packed (length levels) (held_at low high levels) k
 left_as low high levels k n most rest =
     packed_weigh n (held_at low high (drop (8 * k) levels)) 0 bits (λ i l. first i (dec_lt i n))
@@ -67,7 +68,8 @@ pub last_of : (low high : ℕ) (levels eight : List ℕ) {byte : ℕ} → eight 
 last_of low high levels eight e b =
     b
     ∙ packed_as (length levels) (held_at low high levels) 0 (held_at low high eight)
-    (λ i s t. ap (held_between low high) (within i (omega arith) ∙ ap (λ j. get_or levels j 0) (let q : i ≡ 0 * 8 + i = omega arith in q)))
+    (λ i s t. ap (held_between low high) (within i (omega arith)
+    ∙ ap (λ j. get_or levels j 0) (let q : i ≡ 0 * 8 + i = omega arith in q)))
     (λ i s t. sym (held_low low high (get_or eight i 0) (let z = past i s (omega arith) in omega arith)))
   where
     within : (i : ℕ) → i < length levels → get_or eight i 0 ≡ get_or levels i 0
@@ -78,7 +80,8 @@ last_of low high levels eight e b =
         ∙ get_or-replicate (8 - length levels) (i - length levels) 0 0 (omega arith))
 
 -- a byte by the pixels of its row
-byte_as : (width : ℕ) (f g : ℕ → ℕ) (k : ℕ) → ((col : ℕ) → col < width → f col ≡ g col) → byte_packed width f k ≡ byte_packed width g k
+byte_as : (width : ℕ) (f g : ℕ → ℕ) (k : ℕ) → ((col : ℕ) → col < width → f col ≡ g col)
+    → byte_packed width f k ≡ byte_packed width g k
 byte_as width f g k same =
     packed_weigh width f k bits (λ i l. refl) ∙ sym (packed_weigh width g k bits (λ i l. go i (dec_lt (k * 8 + i) width)))
   where

@@ -2,7 +2,6 @@
 -- whole is a raster.
 use Prim.Native.Nat.{ℕ, zero, suc, ◌+◌, ◌-◌, ◌*◌, ◌/◌, ◌%◌, ◌≤◌, ◌<◌}
 use native.Mathlib.Nat.{le_of_eq, add-zero, add-suc, zero-mul, suc-mul, mul-le-mul_right}
-use native.Mathlib.Numerals.{add-one}
 use native.Mathlib.Omega.{arith}
 use mathlib.Core.List.{List, [], ◌∷◌, ◌++◌, append_assoc, append-nil}
 use mathlib.Core.Path.{◌≡◌, refl, sym, ap, ap₂, ◌∙◌}
@@ -29,7 +28,8 @@ cut_is l from n f room is =
 -- the levels of a row of the frame
 pub row_cut : (width margin side : ℕ) (levels : List ℕ) (row : ℕ) → side ≡ canvas_side width margin
     → (row + margin) * side + margin + width ≤ length levels
-    → take ((row + margin) * side + margin + width - ((row + margin) * side + margin)) (drop ((row + margin) * side + margin) levels)
+    → take ((row + margin) * side + margin + width - ((row + margin) * side + margin))
+    (drop ((row + margin) * side + margin) levels)
     ≡ table width (level_in width margin levels row)
 row_cut width margin side levels row e room =
     cut_is levels ((row + margin) * side + margin) width (level_in width margin levels row) room
@@ -47,10 +47,13 @@ table_of g f n e r =
 table_join : (f : ℕ → ℕ) (i k : ℕ) → table i f ++ table k (λ j. f (i + j)) ≡ table (i + k) f
 unfolding table
 table_join f i zero = rw add-zero (append-nil (table i f))
-table_join f i (suc k) = rw add-suc (sym (append_assoc (table i f) (table k (λ j. f (i + j))) (f (i + k) ∷ [])) ∙ ap (λ l. l ++ (f (i + k) ∷ [])) (table_join f i k))
+table_join f i (suc k) =
+    rw add-suc (sym (append_assoc (table i f) (table k (λ j. f (i + j))) (f (i + k) ∷ []))
+    ∙ ap (λ l. l ++ (f (i + k) ∷ [])) (table_join f i k))
 
 -- one part more of a list that is filled from the front
-pub filling_part : {n : ℕ} {f : ℕ → ℕ} {i : ℕ} {out : List ℕ} (k : ℕ) {j : ℕ} {part : List ℕ} → Filling n f i out → j ≡ k → i + k ≤ n
+pub filling_part : {n : ℕ} {f : ℕ → ℕ} {i : ℕ} {out : List ℕ} (k : ℕ) {j : ℕ} {part : List ℕ} → Filling n f i out
+    → j ≡ k → i + k ≤ n
     → part ≡ table k (λ j. f (i + j)) → Filling n f (i + k) (put_mid i j out part)
 filling_part {n} {f} {i} {out} k {j} {part} h q room e =
     let size = h.size in
@@ -60,7 +63,8 @@ filling_part {n} {f} {i} {out} k {j} {part} h q room e =
     record {
       below = room;
       size = rw q (same_len_mid i k out part (long ∙ sym same) ∙ size);
-      front = rw q (take-put_mid i k out part (i + k) (omega arith) (omega arith) ∙ ap₂ (λ a b. a ++ b) h.front e ∙ table_join f i k);
+      front = rw q (take-put_mid i k out part (i + k) (omega arith) (omega arith) ∙ ap₂ (λ a b. a ++ b) h.front e
+          ∙ table_join f i k);
     }
 
 -- a list of one entry only
@@ -100,7 +104,8 @@ module _ {width height : ℕ} {f : ℕ → ℕ → ℕ} {row : ℕ} {out : List 
       let s = suc-mul row width in
       let q : (row + 1) * width ≡ row * width + width = omega arith in
       rw same (record {
-        filled = rw q (filling_part width h.filled (let z : row * width + width - row * width ≡ width = omega arith in z) (omega arith)
+        filled = rw q (filling_part width h.filled
+            (let z : row * width + width - row * width ≡ width = omega arith in z) (omega arith)
             (e ∙ table_same (f row) (λ j. f ((row * width + j) / width) ((row * width + j) % width)) width
             (λ j b. ap₂ f (sym (row_of width row j b)) (sym (column_of width row j b)))));
       })

@@ -1,20 +1,19 @@
 -- The answers of collecting, thresholding and a look at a run, what their buffers hold, and that no second outcome meets their
 -- contracts. All judge the record, the levels and the room, and the first two the rows done; what the code copies or packs
 -- within limits is what the definitions say of each kind.
-use Prim.Native.Nat.{ℕ, suc, ◌+◌, ◌-◌, ◌*◌, ◌≤◌, ◌<◌, min}
+use Prim.Native.Nat.{ℕ, suc, ◌+◌, ◌-◌, ◌*◌, ◌≤◌, min}
 use native.Mathlib.Nat.{sub-zero}
 use native.Mathlib.Numerals.{add-one}
 use native.Mathlib.Omega.{arith}
 use mathlib.Core.Path.{◌≡◌, refl, sym, ap, ◌∙◌, fun_ext}
-use mathlib.Core.Logic.{◌≢◌}
 use mathlib.Core.Bool.{Bool, true, false, not, cond, ◌&&◌, ◌||◌}
 use mathlib.Core.List.{List, [], ◌∷◌, ◌++◌}
 use lib.Dec.{T, eqb, leb, ltb}
 use lib.ListN.{length}
-use borrow.Author.Tests.{lt-ltb, le-ltb, eq-eqb, ne_eqb, eqb-true, ltb-false, not-false}
+use borrow.Author.Tests.{le-ltb, eq-eqb, ne_eqb, eqb-true, ltb-false, not-false}
 use Rattle.basics.specs.Refusals.{Refusal, first}
 use Rattle.basics.specs.Tables.{raster}
-use Rattle.basics.proofs.RefusalLaws.{numbered, judged_first, judged_next, passed, rule_unique}
+use Rattle.basics.proofs.RefusalLaws.{numbered, judged_next, passed, rule_unique}
 use Rattle.sheet.specs.Sheets.{row_bytes, packed}
 use Rattle.row.specs.RowRule.{none}
 use Rattle.run.specs.declared.Record.{Record}
@@ -31,10 +30,6 @@ use Rattle.run.specs.Provisional.{view_refusals, provisional_refusals, ShowsProv
 use Rattle.run.specs.Patches.{Canvas, level_in, read_as, held_between, reading_of, low_of, high_of, bounds_of}
 use Rattle.run.proofs.LevelLaws.{cropped_above}
 use Rattle.run.proofs.RecordLaws.{Sound, sound, not_bad}
-
--- what is known of a record that is not refused
-pub sound_record : (r : Record) → record_bad r ≡ false → Sound r
-sound_record r a = sound r (not_bad r a).0
 
 module _ {r : Record} (s : Sound r) where
   -- its levels cover its area
@@ -74,7 +69,8 @@ module _ {r : Record} (s : Sound r) where
       (fun_ext (λ row. fun_ext (λ col. collected_level_lem (level_in r.width (margin r) levels row col)))))
 
   -- a level between the bounds is a level held
-  pub held_level : (n : ℕ) → n ≤ 4096 → (level : ℕ) → held_between (low_of r n) (high_of r n) level ≡ cond (is_held_at r n level) 1 0
+  pub held_level : (n : ℕ) → n ≤ 4096 → (level : ℕ)
+      → held_between (low_of r n) (high_of r n) level ≡ cond (is_held_at r n level) 1 0
   unfolding held_between
   held_level n l level = go (kind_of r)
     where
@@ -92,7 +88,8 @@ module _ {r : Record} (s : Sound r) where
       go Dilating = rw (ne_eqb (n + 1) none (λ z. omega arith), add-one n) (swap (leb level (suc n)) (leb 1 level))
       go Cropping = ap (λ t. cond t 1 0) (cropped_above r.cap n level s.cap_small l)
 
-  pub is_thresholded : (levels : List ℕ) (n : ℕ) → n ≤ 4096 → (f : Frame) → f ≡ frame_of r → (bounds : Bounds) → bounds ≡ bounds_of r n
+  pub is_thresholded : (levels : List ℕ) (n : ℕ) → n ≤ 4096 → (f : Frame) → f ≡ frame_of r
+      → (bounds : Bounds) → bounds ≡ bounds_of r n
       → packed f.width f.height (λ row col. held_between bounds.low bounds.high (level_in f.width f.margin levels row col))
       ≡ thresholded r levels n
   unfolding thresholded
@@ -100,24 +97,13 @@ module _ {r : Record} (s : Sound r) where
       rw (q, b) (ap (λ f. packed r.width r.height f)
       (fun_ext (λ row. fun_ext (λ col. held_level n l (level_in r.width (margin r) levels row col)))))
 
--- the judge of levels read at a size: each answer from the tests that led to it
+-- the judge of levels read at a size
 module _ (r : Record) (levels : List ℕ) (n room wanted : ℕ) where
   abbrev judged : ℕ
   judged = first (view_refusals r levels n room wanted)
 
-  pub size_refused : size_limit r < n → 8 ≡ judged
-  size_refused l = rw (lt-ltb (size_limit r) n l)
-
-  module _ (l : n ≤ size_limit r) where
-    pub levels_refused : levels_wrong r levels ≡ true → 10 ≡ judged
-    levels_refused b = rw (le-ltb (size_limit r) n l, b)
-
-    module _ (b : levels_wrong r levels ≡ false) where
-      pub room_refused : room ≢ wanted → 11 ≡ judged
-      room_refused e = rw (le-ltb (size_limit r) n l, b, ne_eqb room wanted e)
-
-      pub view_accepted : room ≡ wanted → 0 ≡ judged
-      view_accepted e = rw (le-ltb (size_limit r) n l, b, eq-eqb room wanted e)
+  pub view_accepted : n ≤ size_limit r → levels_wrong r levels ≡ false → room ≡ wanted → 0 ≡ judged
+  view_accepted l b e = rw (le-ltb (size_limit r) n l, b, eq-eqb room wanted e)
 
   -- what an accepted view may rely on
   pub view_taken : judged ≡ 0 → (n ≤ size_limit r) × (levels_wrong r levels ≡ false) × (room ≡ wanted)
@@ -133,12 +119,6 @@ module _ (r : Record) (levels : List ℕ) (n room wanted : ℕ) where
 module _ (r : Record) (views : List Refusal) (t : T (numbered views)) where
   abbrev with_rows_due : List Refusal
   with_rows_due = views ++ (13, not (is_done r)) ∷ []
-
-  pub view_refuses : {number : ℕ} → number ≢ 0 → number ≡ first views → number ≡ first with_rows_due
-  view_refuses = judged_first views ((13, not (is_done r)) ∷ [])
-
-  pub rows_refused : first views ≡ 0 → is_done r ≡ false → 13 ≡ first with_rows_due
-  rows_refused z d = judged_next views ((13, not (is_done r)) ∷ []) t z (rw d)
 
   pub picture_released : first views ≡ 0 → is_done r ≡ true → first with_rows_due ≡ 0
   picture_released z d = sym (judged_next views ((13, not (is_done r)) ∷ []) t z (rw d))
@@ -156,11 +136,6 @@ module _ (r : Record) (levels out : List ℕ) where
   collect_unique = rule_unique
 
   module _ (n : ℕ) where
-    pub provisional_judged : record_bad r ≡ false → {number : ℕ}
-        → number ≡ first (view_refusals r levels n (length out) (r.height * row_bytes r.width))
-        → number ≡ first (provisional_refusals r levels n out)
-    provisional_judged a e = e ∙ rw a
-
     -- what an accepted look may rely on
     pub provisional_taken : first (provisional_refusals r levels n out) ≡ 0
         → (record_bad r ≡ false) × (n ≤ size_limit r) × (levels_wrong r levels ≡ false) ×

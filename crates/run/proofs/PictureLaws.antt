@@ -21,6 +21,7 @@ packed_level frame levels bounds row =
 -- all packed rows are the packed sheet
 pub packed_rows : (frame : Frame) (levels : List ℕ) (bounds : Bounds) {row : ℕ} {out : List ℕ}
     → RowsFilled (row_bytes frame.width) frame.height (packed_level frame levels bounds) row out → row ≡ frame.height
-    → out ≡ packed frame.width frame.height (λ row col. held_between bounds.low bounds.high (level_in frame.width frame.margin levels row col))
+    → out ≡ packed frame.width frame.height
+    (λ row col. held_between bounds.low bounds.high (level_in frame.width frame.margin levels row col))
 unfolding packed
 packed_rows frame levels bounds h e = rows_end h e

@@ -1,53 +1,31 @@
 -- What the tests on a record decide, and what a sound record is: everything that the code and the theorems need of it.
-use Prim.Native.Nat.{◌*◌, ℕ, ◌+◌, ◌-◌, ◌/◌, ◌%◌, ◌≤◌, ◌<◌}
+use Prim.Native.Nat.{◌*◌, ℕ, ◌+◌, ◌≤◌, ◌<◌}
 use native.Mathlib.Nat.{mul-le-mul}
 use native.Mathlib.Numerals.{add-one}
 use native.Mathlib.Omega.{arith}
-use mathlib.Core.Path.{◌≡◌, refl}
+use mathlib.Core.Path.{◌≡◌, refl, sym}
 use mathlib.Core.Bool.{Bool, true, false, not, cond, ◌||◌, true≢false}
 use mathlib.Core.Logic.{◌≢◌}
-use mathlib.Core.List.{List, ◌∷◌}
+use mathlib.Core.List.{List, [], ◌∷◌}
 use lib.Dec.{eqb, ltb}
 use lib.ListN.{length, get_or, drop, drop_of_length-le}
 use lib.Seq.{drop-cons}
-use borrow.Author.Tests.{lt-ltb, le-ltb, le-leb, lt-leb, eq-eqb, ne_eqb, eqb-true, eqb-false, ltb-false, not-false}
-use Rattle.basics.specs.Limits.{longest_side, highest_cap}
+use borrow.Author.Tests.{eqb-true, eqb-false, ltb-false, not-false}
+use Rattle.basics.specs.Refusals.{first}
 use Rattle.basics.proofs.BoundLaws.{neither}
+use Rattle.basics.proofs.RefusalLaws.{passed}
 use Rattle.basics.specs.Bounds.{any_above}
 use Rattle.grid.specs.Figures.{reach}
 use Rattle.element.specs.Elements.{is_side, count_set}
-use Rattle.element.specs.Cells.{is_held}
 use Rattle.element.proofs.ElementLaws.{side_bounds}
 use Rattle.sheet.specs.Sheets.{is_side_out}
 use Rattle.sheet.proofs.FrameLaws.{side_in}
 use Rattle.run.specs.declared.Record.{Record}
+use Rattle.run.specs.declared.sound.Sound as declared
 use Rattle.run.specs.declared.kinds.Kind.TheVariants.{Eroding, Dilating, Cropping}
 use Rattle.run.specs.Kinds.{by_kind, erosion_kind, dilation_kind, background_beyond, foreground_beyond}
-use Rattle.run.specs.Records.{margin_of, margin, area_width, area_height, due, outside, any_outside, element_foreign}
+use Rattle.run.specs.Records.{margin_of, area_width, area_height, due, outside, any_outside, element_foreign}
 use Rattle.run.specs.Records.{kind_foreign, cap_foreign, foreign, record_bad}
-use Rattle.run.proofs.KindLaws.{of_erosion, of_cropped}
-
--- places of the seven
-pub held_before : (side p : ℕ) → p < 3 - reach side → false ≡ is_held side p
-unfolding is_held
-held_before side p l = rw (lt-leb (3 - reach side) p l)
-
-pub held_from_lem : (side p : ℕ) → 3 - reach side ≤ p → ltb p (3 - reach side + side) ≡ is_held side p
-unfolding is_held
-held_from_lem side p l = rw (le-leb (3 - reach side) p l)
-
-module _ (side cell k : ℕ) where
-  pub outside_unset : cell ≡ 0 → false ≡ outside side cell k
-  unfolding outside
-  outside_unset e = rw (eq-eqb cell 0 e)
-
-  pub outside_row : cell ≢ 0 → is_held side (k / 7) ≡ false → true ≡ outside side cell k
-  unfolding outside
-  outside_row n e = rw (ne_eqb cell 0 n, e)
-
-  pub outside_column : cell ≢ 0 → is_held side (k / 7) ≡ true → not (is_held side (k % 7)) ≡ outside side cell k
-  unfolding outside
-  outside_column n e = rw (ne_eqb cell 0 n, e)
 
 -- the cells from k on
 module _ (side : ℕ) (cells : List ℕ) (k : ℕ) where
@@ -67,31 +45,6 @@ module _ (side : ℕ) (cells : List ℕ) (k : ℕ) where
   unfolding any_outside
   outside_end l = rw (drop_of_length-le cells l)
 
--- the answers on an element
-module _ (side : ℕ) (cells : List ℕ) where
-  pub element_side : is_side side ≡ false → true ≡ element_foreign side cells
-  unfolding element_foreign
-  element_side e = rw e
-
-  module _ (a : is_side side ≡ true) where
-    pub element_byte : any_above 1 cells ≡ true → true ≡ element_foreign side cells
-    unfolding element_foreign
-    element_byte b = rw (a, b)
-
-    module _ (b : any_above 1 cells ≡ false) where
-      pub element_outside : any_outside side cells 0 ≡ true → true ≡ element_foreign side cells
-      unfolding element_foreign
-      element_outside c = rw (a, b, c)
-
-      module _ (c : any_outside side cells 0 ≡ false) where
-        pub element_centre : get_or cells 24 0 ≡ 0 → true ≡ element_foreign side cells
-        unfolding element_foreign
-        element_centre d = rw (a, b, c, eq-eqb (get_or cells 24 0) 0 d)
-
-        pub element_others : get_or cells 24 0 ≢ 0 → (n : ℕ) → n ≡ count_set cells → eqb n 1 ≡ element_foreign side cells
-        unfolding element_foreign
-        element_others d n e = rw (a, b, c, ne_eqb (get_or cells 24 0) 0 d, e)
-
 -- an element that some start takes has a side
 pub taken_side : (side : ℕ) (cells : List ℕ) → element_foreign side cells ≡ false → is_side side ≡ true
 unfolding element_foreign
@@ -103,71 +56,14 @@ taken_side side cells e = go (is_side side) refl e
     go true p q = p
     go false p q = absurd (true≢false q)
 
+pub ruleset parts = (side_in, taken_side)
+
 -- margins
 pub margin_small : (cap side : ℕ) → is_side side ≡ true → cap ≤ 2047 → margin_of cap side ≤ 6141
 margin_small cap side e l = mul-le-mul l (let b = side_bounds side e in let h : reach side ≤ 3 = omega arith in h)
 
--- the answers on a kind with its edge rule, and on a cap
+-- a record of which only the rows may be wrong
 module _ (r : Record) where
-  module _ (k : r.kind ≡ erosion_kind) where
-    pub kind_plain : r.edge ≡ background_beyond → not (eqb r.cap 0) ≡ kind_foreign r
-    unfolding kind_foreign
-    kind_plain = of_erosion r _ _ _ k
-
-    pub kind_cropped : r.edge ≢ background_beyond → not (eqb r.edge foreground_beyond) ≡ kind_foreign r
-    unfolding kind_foreign
-    kind_cropped = of_cropped r _ _ _ k
-
-  module _ (n : r.kind ≢ erosion_kind) where
-    pub kind_unknown : r.kind ≢ dilation_kind → true ≡ kind_foreign r
-    unfolding kind_foreign
-    kind_unknown m = rw (ne_eqb r.kind erosion_kind n, ne_eqb r.kind dilation_kind m)
-
-    pub kind_dilation : r.kind ≡ dilation_kind → not (eqb r.edge background_beyond) ≡ kind_foreign r
-    unfolding kind_foreign
-    kind_dilation k = rw (ne_eqb r.kind erosion_kind n, eq-eqb r.kind dilation_kind k)
-
-  pub cap_large : highest_cap < r.cap → true ≡ cap_foreign r
-  unfolding cap_foreign
-  cap_large l = rw (lt-ltb highest_cap r.cap l)
-
-  module _ (l : r.cap ≤ highest_cap) (m : ℕ) (q : m ≡ margin r) where
-    pub cap_width : longest_side < r.width + (m + m) → true ≡ cap_foreign r
-    unfolding cap_foreign
-    cap_width w = rw (le-ltb highest_cap r.cap l, lt-ltb longest_side (area_width r) (rw q at w))
-
-    pub cap_height : r.width + (m + m) ≤ longest_side → ltb longest_side (r.height + (m + m)) ≡ cap_foreign r
-    unfolding cap_foreign
-    cap_height w = rw (le-ltb highest_cap r.cap l, le-ltb longest_side (area_width r) (rw q at w), q)
-
-  -- and on the whole
-  pub foreign_width : is_side_out r.width ≡ true → true ≡ foreign r
-  unfolding foreign
-  foreign_width a = rw a
-
-  module _ (a : is_side_out r.width ≡ false) where
-    pub foreign_height : is_side_out r.height ≡ true → true ≡ foreign r
-    unfolding foreign
-    foreign_height b = rw (a, b)
-
-    module _ (b : is_side_out r.height ≡ false) where
-      pub foreign_element : element_foreign r.side r.cells ≡ true → true ≡ foreign r
-      unfolding foreign
-      foreign_element c = rw (a, b, c)
-
-      module _ (c : element_foreign r.side r.cells ≡ false) where
-        pub foreign_kind : kind_foreign r ≡ true → true ≡ foreign r
-        unfolding foreign
-        foreign_kind d = rw (a, b, c, d)
-
-        pub foreign_cap : kind_foreign r ≡ false → (t : Bool) → t ≡ cap_foreign r → t ≡ foreign r
-        unfolding foreign
-        foreign_cap d t e = rw (a, b, c, d) e
-
-  pub bad_foreign : foreign r ≡ true → true ≡ record_bad r
-  unfolding record_bad
-  bad_foreign a = rw a
-
   pub bad_rows : foreign r ≡ false → (n : ℕ) → n ≡ due r → ltb n r.rows ≡ record_bad r
   unfolding record_bad
   bad_rows a n e = rw (a, e)
@@ -250,6 +146,35 @@ sound r e =
       area_wide = fits.1;
       area_high = fits.2;
     }
+
+-- what is small of it, law by law
+module _ (r : Record) (e : foreign r ≡ false) where
+  pub side_sound : is_side r.side ≡ true
+  side_sound = (sound r e).side_is
+
+  pub cap_sound : r.cap ≤ 2047
+  cap_sound = (sound r e).cap_small
+
+  pub width_sound : (1 ≤ r.width) × (area_width r ≤ 4096)
+  width_sound = ((sound r e).wide.0, (sound r e).area_wide)
+
+  pub height_sound : (1 ≤ r.height) × (area_height r ≤ 4096)
+  height_sound = ((sound r e).high.0, (sound r e).area_high)
+
+  pub area_sound : area_height r * area_width r ≤ 4096 * 4096
+  area_sound = mul-le-mul (sound r e).area_high (sound r e).area_wide
+
+  pub frame_sound : (r.width ≤ 4096) × (r.height * r.width ≤ 4096 * 4096)
+  frame_sound = ((sound r e).wide.1, mul-le-mul (sound r e).high.1 (sound r e).wide.1)
+
+pub ruleset sounds = (side_sound, cap_sound, width_sound, height_sound, area_sound, frame_sound)
+
+-- a record that is judged alone, and the one that the judge gives
+pub judged_good : (r : Record) → 0 ≡ first ((1, record_bad r) ∷ []) → record_bad r ≡ false
+judged_good r e = (passed 1 (record_bad r) [] (λ q. absurd (omega arith)) (sym e)).0
+
+pub judged_sound : (s : declared.Sound) {r : Record} → s.run ≡ r → Sound r
+judged_sound s e = rw (sym e) (sound s.run s.taken)
 
 -- a record that is not refused
 pub not_bad : (r : Record) → record_bad r ≡ false → (foreign r ≡ false) × (r.rows ≤ due r)

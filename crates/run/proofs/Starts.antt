@@ -1,36 +1,27 @@
 -- The answers of the three starts, and that no second outcome meets their contracts.
 -- All judge the sheet and the element first, and after that a list of their own; where a start is accepted, each of its
 -- refusals was found not to apply.
-use Prim.Native.Nat.{ℕ, ◌*◌, ◌≤◌, ◌<◌}
+use Prim.Native.Nat.{ℕ, ◌*◌, ◌≤◌}
 use native.Mathlib.Nat.{zero-mul}
 use native.Mathlib.Omega.{arith}
 use mathlib.Core.Path.{◌≡◌, refl, ap₂, ◌∙◌}
-use mathlib.Core.Logic.{◌≢◌}
 use mathlib.Core.Bool.{Bool, true, false, not, ◌||◌}
 use mathlib.Core.List.{List, [], ◌∷◌, ◌++◌}
 use lib.Dec.{eqb, ltb}
 use lib.ListN.{length}
-use borrow.Author.Tests.{lt-ltb, le-ltb, ltb-false, eq-eqb, ne_eqb, eqb-true}
-use Rattle.basics.specs.Refusals.{Refusal, first, Answers}
-use Rattle.basics.proofs.RefusalLaws.{judged_first, judged_next, first_both, passed, refuses, accepts, rule_unique}
+use borrow.Author.Tests.{le-ltb, ltb-false, eq-eqb, eqb-true}
+use Rattle.basics.specs.Refusals.{Refusal, first}
+use Rattle.basics.proofs.RefusalLaws.{judged_next, first_both, passed, rule_unique}
 use Rattle.grid.specs.Figures.{reach}
 use Rattle.element.specs.Elements.{element_refusals}
-use Rattle.element.specs.Cells.{centred, flat}
 use Rattle.element.proofs.Accepted.{Accepted, accepted}
 use Rattle.sheet.specs.Sheets.{row_bytes, sheet_refusals}
 use Rattle.sheet.proofs.FrameLaws.{frame_sides, sheet_accepted}
 use Rattle.run.specs.declared.Record.{Record}
-use Rattle.run.specs.Kinds.{on_of, off_of, beyond_of}
-use Rattle.run.specs.Records.{margin_of, margin, canvas_side, empty_record}
-use Rattle.run.specs.Starting.{fresh_record, start_area, start_levels, begun, erosion_refusals, StartsErosion, canvas_size, canvas_refusals}
+use Rattle.run.specs.Records.{margin_of, canvas_side}
+use Rattle.run.specs.Starting.{erosion_refusals, StartsErosion, canvas_size, canvas_refusals}
 use Rattle.run.specs.Starting.{dilation_refusals, StartsDilation, StartsCropped}
 use Rattle.run.specs.Patches.{Canvas}
-
--- the record of an accepted start
-pub fresh_record_lem : (kind edge width height cap side : ℕ) (bytes cells : List ℕ) → cells ≡ flat (centred side bytes)
-    → record { kind = kind; width = width; height = height; cap = cap; side = side; rows = 0; cells = cells; edge = edge }
-    ≡ fresh_record kind edge width height cap side bytes
-fresh_record_lem kind edge width height cap side bytes cells e = rw e
 
 -- what an accepted start has: a sound frame, the sheet's bytes, and a sound element
 pub record Judged (width height : ℕ) (sheet : List ℕ) (side : ℕ) (bytes : List ℕ) : Type 0 where
@@ -56,14 +47,6 @@ module _ (width height : ℕ) (sheet : List ℕ) (side : ℕ) (bytes : List ℕ)
     abbrev erosion_later : List Refusal
     erosion_later = (10, not (eqb (length levels) (height * width))) ∷ []
 
-    pub erosion_common : {number : ℕ} → number ≢ 0 → number ≡ first common
-        → number ≡ first (erosion_refusals width height sheet side bytes levels)
-    erosion_common n e = judged_first common erosion_later n e
-
-    pub erosion_short : first common ≡ 0 → length levels ≢ height * width
-        → 10 ≡ first (erosion_refusals width height sheet side bytes levels)
-    erosion_short z n = judged_next common erosion_later tt z (rw (ne_eqb (length levels) (height * width) n))
-
     pub erosion_fits : first common ≡ 0 → length levels ≡ height * width
         → 0 ≡ first (erosion_refusals width height sheet side bytes levels)
     erosion_fits z e = judged_next common erosion_later tt z (rw (eq-eqb (length levels) (height * width) e))
@@ -76,35 +59,8 @@ module _ (width height : ℕ) (sheet : List ℕ) (side : ℕ) (bytes : List ℕ)
         go true p q = eqb-true (length levels) (height * width) p
         go false p q = absurd (omega arith)
 
--- refusals 9 and 10 of a canvas, whose margin is m
+-- refusals 9 and 10 of a canvas
 module _ (width height cap side count : ℕ) where
-  module _ (m : ℕ) (q : m ≡ margin_of cap side) where
-    pub canvas_wide : 4096 < canvas_side width m → 9 ≡ first (canvas_refusals width height cap side count)
-    canvas_wide a = rw (← q, lt-ltb 4096 (canvas_side width m) a)
-
-    module _ (a : canvas_side width m ≤ 4096) where
-      pub canvas_high : 4096 < canvas_side height m → 9 ≡ first (canvas_refusals width height cap side count)
-      canvas_high b = rw (← q, le-ltb 4096 (canvas_side width m) a, lt-ltb 4096 (canvas_side height m) b)
-
-      module _ (b : canvas_side height m ≤ 4096) where
-        pub canvas_short : count ≢ canvas_side height m * canvas_side width m
-            → 10 ≡ first (canvas_refusals width height cap side count)
-        canvas_short n = rw (
-          ← q,
-          le-ltb 4096 (canvas_side width m) a,
-          le-ltb 4096 (canvas_side height m) b,
-          ne_eqb count (canvas_side height m * canvas_side width m) n,
-        )
-
-        pub canvas_fits : count ≡ canvas_side height m * canvas_side width m
-            → 0 ≡ first (canvas_refusals width height cap side count)
-        canvas_fits e = rw (
-          ← q,
-          le-ltb 4096 (canvas_side width m) a,
-          le-ltb 4096 (canvas_side height m) b,
-          eq-eqb count (canvas_side height m * canvas_side width m) e,
-        )
-
   pub canvas_taken : first (canvas_refusals width height cap side count) ≡ 0
       → (canvas_side width (margin_of cap side) ≤ 4096) × (canvas_side height (margin_of cap side) ≤ 4096) ×
       (count ≡ canvas_size width height cap side)
@@ -128,14 +84,7 @@ module _ (width height : ℕ) (sheet : List ℕ) (side : ℕ) (bytes : List ℕ)
   abbrev dilation_later : List Refusal
   dilation_later = (8, ltb 2047 cap) ∷ canvas_refusals width height cap side (length levels)
 
-  pub dilation_common : {number : ℕ} → number ≢ 0 → number ≡ first (common width height sheet side bytes)
-      → number ≡ first (dilation_refusals width height sheet side bytes cap levels)
-  dilation_common n e = judged_first (common width height sheet side bytes) dilation_later n e
-
   module _ (z : first (common width height sheet side bytes) ≡ 0) where
-    pub dilation_cap : 2047 < cap → 8 ≡ first (dilation_refusals width height sheet side bytes cap levels)
-    dilation_cap l = judged_next (common width height sheet side bytes) dilation_later tt z (rw (lt-ltb 2047 cap l))
-
     pub dilation_canvas : cap ≤ 2047 → {number : ℕ} → number ≡ first (canvas_refusals width height cap side (length levels))
         → number ≡ first (dilation_refusals width height sheet side bytes cap levels)
     dilation_canvas l e = judged_next (common width height sheet side bytes) dilation_later tt z (rw (le-ltb 2047 cap l) e)
@@ -148,23 +97,6 @@ module _ (width height : ℕ) (sheet : List ℕ) (side : ℕ) (bytes : List ℕ)
       let q = passed 8 (ltb 2047 cap) (canvas_refusals width height cap side (length levels)) (λ e. absurd (omega arith)) p.1 in
       (p.0, ltb-false 2047 cap q.0, q.1)
 
--- the answers
-module _ {refusals : List Refusal} {levels : List ℕ} {r : Record} (sheet : List ℕ) where
-  pub start_refuses : {answered number : ℕ} {run : Record} → number ≢ 0 → number ≡ first refusals
-      → (answered ≡ number) × (run ≡ empty_record)
-      → Answers {A = Record × List ℕ} refusals (empty_record, levels) (λ x. x ≡ begun r sheet) answered (run, levels)
-  start_refuses {answered} {number} {run} n e (p, q) = rw (p, q) (refuses number n e)
-
-  pub start_accepts : {run : Record} {after : List ℕ} → first refusals ≡ 0 → run ≡ r → after ≡ start_levels run sheet
-      → Answers {A = Record × List ℕ} refusals (empty_record, levels) (λ x. x ≡ begun r sheet) 0 (run, after)
-  start_accepts {run} {after} e q h = rw (h, q) (accepts (begun r sheet) e refl)
-
--- the levels filled by a record's kind
-pub levels_filled : (r : Record) (sheet : List ℕ) {m on off outside : ℕ} {after : List ℕ} → m ≡ margin r → on ≡ on_of r
-    → off ≡ off_of r → outside ≡ beyond_of r → after ≡ start_area r.width r.height m sheet on off outside
-    → after ≡ start_levels r sheet
-levels_filled r sheet p q s t e = e ∙ rw (p, q, s, t)
-
 -- what filling the levels of a fresh record asks: a plain erosion has no margin ..
 pub frame_canvas : (width height side : ℕ) (levels : List ℕ) → width ≤ 4096 → height ≤ 4096 → length levels ≡ height * width
     → Canvas width height (margin_of 0 side) levels
@@ -175,12 +107,6 @@ frame_canvas width height side levels a b e =
       room = e ∙ ap₂ (λ h w. h * w) (let p : height ≡ canvas_side height (margin_of 0 side) = omega arith in p)
           (let p : width ≡ canvas_side width (margin_of 0 side) = omega arith in p);
     }
-
--- .. the others have the canvas of their cap
-pub canvas_area : (width height cap side : ℕ) (levels : List ℕ)
-    → first (canvas_refusals width height cap side (length levels)) ≡ 0 → Canvas width height (margin_of cap side) levels
-canvas_area width height cap side levels z = let t = canvas_taken width height cap side (length levels) z in
-    record { wide = t.0; high = t.1; room = t.2 }
 
 -- NO SECOND OUTCOME
 pub start_erosion_unique : (width height : ℕ) (sheet : List ℕ) (side : ℕ) (bytes levels : List ℕ) (m n : ℕ)

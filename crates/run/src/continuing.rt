@@ -1,13 +1,13 @@
 // Continuing a run by an allowance of rows.
-ghost use Rattle.std.specs.Prelude.{◌≡◌, false, ◌+◌, ◌*◌, ◌≤◌, length};
+ghost use Rattle.std.specs.Prelude.{◌≡◌, ◌+◌, ◌*◌, ◌≤◌, length, IfOk};
 ghost use Rattle.basics.specs.Refusals.{first, number};
 ghost use Rattle.scan.specs.Scan.{scan_rows, rows_lowered};
-ghost use Rattle.run.specs.Records.{area_width, area_height, due, area_of, foreign};
+ghost use Rattle.run.specs.Records.{area_width, area_height, due, area_of};
 ghost use Rattle.run.specs.Continuing.{continue_refusals, answer_of, Continues};
 
-use super::{Record, kinds, records};
+use super::sound::Sound;
+use super::{Record, records};
 use basics::Refusal;
-use row::Area;
 
 // What a continue answers: the new record, whether all rows are done, and how many points its rows lowered.
 #[derive(Clone, Copy)]
@@ -18,48 +18,38 @@ pub struct Continued {
 }
 
 // Refusals 1, 10 and 12 of a continue.
-#[tactic(auto, using(crate::proofs::RecordLaws::not_foreign))]
-pub fn check_continue(run: Record, levels: &[u16], allowance: usize) -> Result<(), Refusal>
-    ensures { number result ≡ first (continue_refusals run levels.now allowance) }
+pub fn check_continue(run: Record, levels: &[u16], allowance: usize) -> Result<Sound, Refusal>
+    ensures { (number result ≡ first (continue_refusals run levels.now allowance)) × IfOk result (λ sound. sound.run ≡ run) }
 {
-    if records::record_bad(run) {
-        return Err(Refusal::Record);
-    }
-    if records::levels_wrong(run, levels) {
+    let sound = records::check_record(run)?;
+    if sound.levels_wrong(levels) {
         return Err(Refusal::LevelsLength);
     }
     if basics::MOST_ROWS < allowance {
         return Err(Refusal::Allowance);
     }
-    Ok(())
+    Ok(sound)
 }
 
 // Works `count` rows of those due, and counts the points they lower.
-fn work_rows(run: Record, levels: &mut [u16], count: usize) -> usize
-    requires { (foreign run ≡ false) ×
-        ((length levels.old ≡ area_height run * area_width run) × (run.rows + count ≤ due run)) }
-    ensures { (levels.new ≡ scan_rows (area_of run) run.rows count levels.old) ×
-        (result ≡ rows_lowered (area_of run) run.rows count levels.old) }
+fn work_rows(sound: Sound, levels: &mut [u16], count: usize) -> usize
+    requires { (length levels.old ≡ area_height sound.run * area_width sound.run) × (sound.run.rows + count ≤ due sound.run) }
+    ensures { (levels.new ≡ scan_rows (area_of sound.run) sound.run.rows count levels.old) ×
+        (result ≡ rows_lowered (area_of sound.run) sound.run.rows count levels.old) }
 {
-    let area = Area {
-        width: records::area_width(run),
-        height: records::area_height(run),
-        beyond: kinds::beyond_of(run),
-        cells: kinds::scan_cells(run),
-    };
-    let reach = (run.side - 1) / 2;
-    scan::scan_rows(levels, &area, run.rows, count, reach)
+    let reach = (sound.run.side - 1) / 2;
+    scan::scan_rows(levels, &sound.area(), sound.run.rows, count, reach)
 }
 
 // Public: works the allowance or what is due, the lesser. Refusals 1, 10, 12.
-#[tactic(auto, using(crate::proofs::RecordLaws::not_foreign, crate::proofs::RecordLaws::rows_within))]
+#[tactic(auto, using(crate::proofs::RecordLaws::rows_within))]
 pub fn continue_run(run: Record, levels: &mut [u16], allowance: usize) -> Result<Continued, Refusal>
     ensures { Continues run levels.old allowance (number result) (answer_of result levels.new) }
 {
-    check_continue(run, levels, allowance)?;
-    let due = records::rows_due(run);
+    let sound = check_continue(run, levels, allowance)?;
+    let due = sound.rows_due();
     let count = allowance.min(due - run.rows);
-    let lowered = work_rows(run, levels, count);
+    let lowered = work_rows(sound, levels, count);
     let rows = run.rows + count;
     Ok(Continued {
         run: Record { rows, ..run },

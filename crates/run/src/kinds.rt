@@ -15,8 +15,8 @@ pub enum Kind {
     Cropping,
 }
 
-// Kept as numbers: a record is also what a caller has in memory, and one that no start gives is answered.
 // The kinds, as a record has them.
+// Kept: numbers, since callers have records in memory, and one that no start gives is answered.
 pub const EROSION: u8 = 1;
 
 pub const DILATION: u8 = 2;
@@ -110,8 +110,8 @@ impl Reading {
     }
 }
 
-// How levels are collected: any of a plain erosion as it is; of a dilation, those above R + 1 as 0; of a cropped sheet's erosion one
-// less, and those above R + 1 as 65,535.
+// How levels are collected: any of a plain erosion as it is; of a dilation, those above R + 1 as 0; of a cropped sheet's erosion
+// one less, and those above R + 1 as 65,535.
 pub fn reading_of(run: Record) -> Reading
     requires { run.cap ≤ highest_cap }
     ensures { result ≡ reading_of run }
@@ -142,8 +142,9 @@ impl Bounds {
     }
 }
 
-// The levels that a run holds at a size: above the size for a plain erosion; from 1 to the size and one for a dilation; for a cropped
-// sheet's erosion, whose levels are collected one less, above the size and one, at most R + 1.
+// Kept, here and where it is called: a size with its bound in a clause; a type of its own would be opened at each use.
+// The levels that a run holds at a size: above the size for a plain erosion; from 1 to the size and one for a dilation; for a
+// cropped sheet's erosion, whose levels are collected one less, above the size and one, at most R + 1.
 pub fn bounds_of(run: Record, size: usize) -> Bounds
     requires { (run.cap ≤ highest_cap) × (size ≤ largest_size) }
     ensures { result ≡ bounds_of run size }

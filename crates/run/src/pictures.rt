@@ -1,16 +1,17 @@
-// Pictures of a finished run: its levels collected, and the sheet that it holds at a size; and how both, and a look, are judged and packed.
-ghost use Rattle.std.specs.Prelude.{◌≡◌, false, ◌+◌, ◌*◌, ◌/◌, ◌≤◌, length, get_or};
+// Pictures of a finished run: its levels collected, and the sheet that it holds at a size; and how both, and a look, are judged and
+// packed.
+ghost use Rattle.std.specs.Prelude.{◌≡◌, ◌+◌, ◌*◌, ◌/◌, ◌≤◌, length, get_or, IfOk};
 ghost use Rattle.basics.specs.Limits.{longest_side};
 ghost use Rattle.basics.specs.Refusals.{first, number};
 ghost use Rattle.basics.specs.Tables.{table, raster};
 ghost use Rattle.sheet.specs.Sheets.{row_bytes, byte_packed, packed};
-ghost use Rattle.run.specs.Records.{record_bad};
 ghost use Rattle.run.specs.Patches.{Canvas, level_in, read_as, held_between};
 ghost use Rattle.run.specs.Pictures.{thresholded, Collects, Thresholds};
 ghost use Rattle.run.specs.Provisional.{view_refusals, provisional_refusals};
 
 use super::kinds::{Bounds, Reading};
 use super::records::Frame;
+use super::sound::Sound;
 use super::{Record, kinds, records};
 use basics::Refusal;
 
@@ -24,7 +25,8 @@ fn copy_row(levels: &[u16], reading: Reading, out: &mut [u16])
     }
 }
 
-// The frame's part of the levels, each as it is read.
+// The frame's part of the levels, each as it is read. Kept: this walk over a frame's rows and those that pack, store, raise and
+// count are a loop each; one for all would state by a closure what it does to parts of two slices.
 fn copy_frame(levels: &[u16], frame: Frame, reading: Reading, out: &mut [u16])
     requires { Canvas frame.width frame.height frame.margin levels.now × (length out.old ≡ frame.height * frame.width) }
     ensures { out.new ≡ raster frame.width frame.height
@@ -41,21 +43,19 @@ fn copy_frame(levels: &[u16], frame: Frame, reading: Reading, out: &mut [u16])
 }
 
 // Refusals 8, 10 and 11 of a sound record's levels read at a size, with `room` entries lent of `wanted`.
-#[tactic(auto, using(crate::proofs::RecordLaws::not_foreign))]
 fn check_view(
-    run: Record,
+    sound: Sound,
     levels: &[u16],
     size: usize,
     room: usize,
     wanted: usize,
 ) -> Result<(), Refusal>
-    requires { record_bad run ≡ false }
-    ensures { number result ≡ first (view_refusals run levels.now size room wanted) }
+    ensures { number result ≡ first (view_refusals sound.run levels.now size room wanted) }
 {
-    if kinds::size_limit(run) < size {
+    if kinds::size_limit(sound.run) < size {
         return Err(Refusal::Size);
     }
-    if records::levels_wrong(run, levels) {
+    if sound.levels_wrong(levels) {
         return Err(Refusal::LevelsLength);
     }
     if room != wanted {
@@ -65,17 +65,16 @@ fn check_view(
 }
 
 // Public: fills `out` with the frame's levels of a finished run. Refusals 1, 10, 11, 13.
+#[tactic(auto, using(crate::proofs::RecordLaws::not_foreign, crate::proofs::RecordLaws::sounds))]
 pub fn collect(run: Record, levels: &[u16], out: &mut [u16]) -> Result<(), Refusal>
     ensures { Collects run levels.now out.old (number result) out.new }
 {
-    if records::record_bad(run) {
-        return Err(Refusal::Record);
-    }
-    check_view(run, levels, 0, out.len(), run.height * run.width)?;
-    if !records::all_done(run) {
+    let sound = records::check_record(run)?;
+    check_view(sound, levels, 0, out.len(), run.height * run.width)?;
+    if !sound.all_done() {
         return Err(Refusal::RowsDue);
     }
-    copy_frame(levels, records::frame_of(run), kinds::reading_of(run), out);
+    copy_frame(levels, sound.frame(), kinds::reading_of(run), out);
     Ok(())
 }
 
@@ -136,38 +135,32 @@ pub fn check_provisional(
     levels: &[u16],
     size: usize,
     out: &[u8],
-) -> Result<(), Refusal>
-    ensures { number result ≡ first (provisional_refusals run levels.now size out.now) }
+) -> Result<Sound, Refusal>
+    ensures { (number result ≡ first (provisional_refusals run levels.now size out.now)) × IfOk result (λ sound. sound.run ≡ run) }
 {
-    if records::record_bad(run) {
-        return Err(Refusal::Record);
-    }
+    let sound = records::check_record(run)?;
     let wanted = run.height * sheet::row_bytes(run.width);
-    check_view(run, levels, size, out.len(), wanted)
+    check_view(sound, levels, size, out.len(), wanted)?;
+    Ok(sound)
 }
 
 // That sheet, packed.
-pub fn pack_held(run: Record, levels: &[u16], size: usize, out: &mut [u8])
-    requires { first (provisional_refusals run levels.now size out.old) ≡ 0 }
-    ensures { out.new ≡ thresholded run levels.now size }
+pub fn pack_held(sound: Sound, levels: &[u16], size: usize, out: &mut [u8])
+    requires { first (provisional_refusals sound.run levels.now size out.old) ≡ 0 }
+    ensures { out.new ≡ thresholded sound.run levels.now size }
 {
-    pack_frame(
-        levels,
-        records::frame_of(run),
-        kinds::bounds_of(run, size),
-        out,
-    );
+    let bounds = kinds::bounds_of(sound.run, size);
+    pack_frame(levels, sound.frame(), bounds, out);
 }
 
 // Public: fills `out` with the packed sheet that a finished run holds at a size. Refusals 1, 8, 10, 11, 13.
-#[tactic(auto, using(crate::proofs::RecordLaws::not_foreign))]
 pub fn threshold(run: Record, levels: &[u16], size: usize, out: &mut [u8]) -> Result<(), Refusal>
     ensures { Thresholds run levels.now size out.old (number result) out.new }
 {
-    check_provisional(run, levels, size, out)?;
-    if !records::all_done(run) {
+    let sound = check_provisional(run, levels, size, out)?;
+    if !sound.all_done() {
         return Err(Refusal::RowsDue);
     }
-    pack_held(run, levels, size, out);
+    pack_held(sound, levels, size, out);
     Ok(())
 }

@@ -1,15 +1,17 @@
-// Records: whether a start could have given one, and the area that its run works on.
-ghost use Rattle.std.specs.Prelude.{◌≡◌, true, false, ◌*◌, ◌^◌, ◌<◌, ◌≤◌};
-ghost use Rattle.basics.specs.Limits.{longest_side, highest_cap, most_rows};
+// Records: whether a start could have given one, and the frame of its run.
+ghost use Rattle.std.specs.Prelude.{◌≡◌, true, ◌*◌, ◌^◌, ◌<◌, ◌≤◌, [], ◌∷◌, IfOk};
+ghost use Rattle.basics.specs.Limits.{longest_side, highest_cap};
+ghost use Rattle.basics.specs.Refusals.{first, number};
 ghost use Rattle.basics.specs.Tables.{table};
 ghost use Rattle.element.specs.Elements.{is_side};
-ghost use Rattle.run.specs.Records.{margin_of, canvas_side, area_width, area_height, due, outside, any_outside, element_foreign};
+ghost use Rattle.run.specs.Records.{margin_of, canvas_side, outside, any_outside, element_foreign};
 ghost use Rattle.run.specs.Records.{kind_foreign, cap_foreign, foreign, record_bad, frame_of};
-ghost use Rattle.run.specs.Continuing.{levels_wrong, is_done};
 ghost use Rattle.run.specs.Patches.{Canvas, level_in};
 
 use super::kinds::Kind;
+use super::sound::Sound;
 use super::{Record, kinds};
+use basics::Refusal;
 
 // A frame, and the margin of the canvas around it.
 #[derive(Clone, Copy)]
@@ -20,7 +22,9 @@ pub struct Frame {
 }
 
 impl Frame {
-    // The sides of the area: the frame's, with the margin on both sides.
+    // The sides of the area: the frame's, with the margin on both sides. Kept: a method for each, here and of `Sound`; one that
+    // took which side would be longer at each call.
+    // Kept: one method, as in frame.area_side(frame.width), would be no plainer.
     pub fn area_width(self) -> usize
         requires { canvas_side self.width self.margin ≤ 2 ^ 32 }
         ensures { result ≡ canvas_side self.width self.margin }
@@ -124,7 +128,7 @@ fn cap_foreign(run: Record) -> bool
 }
 
 // Whether no start gives the record, rows done aside.
-#[tactic(auto, using(sheet::proofs::FrameLaws::side_in, crate::proofs::RecordLaws::taken_side), unfolding(crate::specs::Records::foreign))]
+#[tactic(auto, using(crate::proofs::RecordLaws::parts), unfolding(crate::specs::Records::foreign))]
 fn record_foreign(run: Record) -> bool
     ensures { result ≡ foreign run }
 {
@@ -135,49 +139,21 @@ fn record_foreign(run: Record) -> bool
         || cap_foreign(run)
 }
 
-// The sides of the area.
-pub fn area_width(run: Record) -> usize
-    requires { foreign run ≡ false }
-    ensures { (result ≡ area_width run) × ((1 ≤ result) × (result ≤ longest_side)) }
-{
-    frame_of(run).area_width()
-}
-
-pub fn area_height(run: Record) -> usize
-    requires { foreign run ≡ false }
-    ensures { (result ≡ area_height run) × ((1 ≤ result) × (result ≤ longest_side)) }
-{
-    frame_of(run).area_height()
-}
-
-// The rows due in all.
-pub fn rows_due(run: Record) -> usize
-    requires { foreign run ≡ false }
-    ensures { (result ≡ due run) × (result ≤ most_rows) }
-{
-    2 * area_height(run)
-}
-
-// Whether all of them are done.
-pub fn all_done(run: Record) -> bool
-    requires { foreign run ≡ false }
-    ensures { result ≡ is_done run }
-{
-    run.rows == rows_due(run)
-}
-
-// Whether the levels lent are not one for each point of the area.
-pub fn levels_wrong(run: Record, levels: &[u16]) -> bool
-    requires { foreign run ≡ false }
-    ensures { result ≡ levels_wrong run levels.now }
-{
-    levels.len() != area_height(run) * area_width(run)
-}
-
-// Refusal 1: no start gives the record, or more rows are done than due.
+// Whether no start gives the record, or more rows are done than due.
 #[tactic(auto, unfolding(crate::specs::Records::record_bad))]
 pub fn record_bad(run: Record) -> bool
     ensures { result ≡ record_bad run }
 {
-    record_foreign(run) || rows_due(run) < run.rows
+    record_foreign(run) || Sound { run }.rows_due() < run.rows
+}
+
+// Refusal 1.
+#[tactic(auto, using(crate::proofs::RecordLaws::not_foreign))]
+pub fn check_record(run: Record) -> Result<Sound, Refusal>
+    ensures { (number result ≡ first ((1, record_bad run) ∷ [])) × IfOk result (λ sound. sound.run ≡ run) }
+{
+    if record_bad(run) {
+        return Err(Refusal::Record);
+    }
+    Ok(Sound { run })
 }

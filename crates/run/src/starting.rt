@@ -211,6 +211,7 @@ pub fn start_on_canvas(
 }
 
 // Public: starts a dilation on the canvas, its levels 1 on the foreground and 65,535 elsewhere. Refusals 2 to 10.
+// Kept: this and the next, each with a promise of its own; what they share is `start_on_canvas`.
 pub fn start_dilation(
     input: Input,
     sheet: &[u8],
@@ -232,8 +233,8 @@ pub fn start_dilation(
     )
 }
 
-// Public: starts the erosion of a cropped sheet, with foreground beyond the frame, its levels 1 on the frame's background and 65,535
-// elsewhere on the canvas. Refusals 2 to 10.
+// Public: starts the erosion of a cropped sheet, with foreground beyond the frame, its levels 1 on the frame's background and
+// 65,535 elsewhere on the canvas. Refusals 2 to 10.
 pub fn start_cropped(
     input: Input,
     sheet: &[u8],

@@ -5,7 +5,7 @@ ghost use Rattle.basics.specs.Sums.{sum};
 ghost use Rattle.sheet.specs.Sheets.{row_bytes, pixel};
 ghost use Rattle.spectrum.specs.Spectrum.{is_blank};
 
-// Whether a row has a foreground pixel. Nothing branches on a pixel.
+// Whether a row has a foreground pixel. Kept: a loop that branches on no pixel, as `any` would; maps has one that looks at sizes.
 fn any_in_row(width: usize, sheet: &[u8], row: usize) -> bool
     requires { (width ≤ longest_side) × ((row < longest_side) × (row * row_bytes width + row_bytes width ≤ length sheet.now)) }
     ensures { result ≡ ltb 0 (sum width (λ col. cond (eqb (pixel width sheet.now row col) 1) 1 0)) }

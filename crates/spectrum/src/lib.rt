@@ -20,7 +20,7 @@ pub struct Summary {
     pub share: f64,
 }
 
-// Refusals 2 to 7, 10, 11 and 14 with buffers of these lengths.
+// Refusals 2 to 7, 10, 11 and 14 with buffers of these lengths. Kept: three numbers, as the definition takes them (`refusals_by`).
 pub fn check_spectrum(
     input: Input,
     sheet: &[u8],
@@ -56,8 +56,8 @@ pub fn spectrum(
         (record { first = first.new; second = second.new; out = table.new }, value_or no_summary result) }
 {
     check_spectrum(input, sheet, bytes, first.len(), second.len(), table.len())?;
-    let run = answering::first_run(input, sheet, bytes, Plan::OPENING_LEVELS, first);
-    counting::fill_table(run, first, second, table);
+    let sound = answering::first_run(input, sheet, bytes, Plan::OPENING_LEVELS, first);
+    counting::fill_table(sound, first, second, table);
     first.fill(0);
     second.fill(0);
     Ok(fractions::summary_of(table))

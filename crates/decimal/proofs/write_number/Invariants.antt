@@ -3,4 +3,4 @@ use Rattle.decimal.proofs.LoopLaws.{Writing}
 use Rattle.decimal.proofs.write_number.Given as goal
 
 abbrev pub invariant-loop-i : goal.invariant-loop-i
-invariant-loop-i l = Writing l.n l.at l.initial.out l.left l.i l.out
+invariant-loop-i l = Writing l.n l.initial.out l.left l.i l.out

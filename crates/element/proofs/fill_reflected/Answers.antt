@@ -1,4 +1,7 @@
-use Rattle.std.proofs.Common.{◌<◌, ◌-◌, ◌*◌, ◌∙◌, ap, get_or, arith}
+-- Read backwards, each byte stands at the place across the centre.
+use Rattle.std.proofs.Common.{◌≡◌, ℕ, ◌<◌, ◌-◌, ◌*◌, ◌∙◌, ap, get_or, length, arith}
+use Rattle.std.specs.Prelude.{reverse}
+use Rattle.std.proofs.lemmas.List.{get_or-reverse, length-reverse}
 use Rattle.basics.specs.Tables.{raster}
 use Rattle.basics.proofs.TableLaws.{table_is}
 use Rattle.element.specs.Reflect.{reflected_bytes}
@@ -9,9 +12,10 @@ pub returns : goal.returns
 unfolding reflected_bytes raster
 returns c =
     let args = c.args in
-    let pre = c.requires in
-    table_is _ (args.side * args.side) 0 c.loop-k.out (c.loop-k.auto.out ∙ pre.1.1 ∙ pre.1.0)
-    (λ k l.
-    c.loop-k.invariant k (let b : k < c.loop-k.k = omega arith in b)
-    ∙ ap (λ n. get_or args.bytes.now (n - 1 - k) 0) pre.1.0
-    ∙ reflected_entry args.side args.bytes.now k l)
+    let bytes = args.bytes.now in
+    let size = c.requires.1.0 in
+    c.reverse.ensures.after ∙ ap reverse c.copy_from_slice.ensures.after
+    ∙ table_is _ (args.side * args.side) 0 (reverse bytes) (length-reverse bytes ∙ size)
+    (λ k l. get_or-reverse bytes k 0 (let b : k < length bytes = omega arith in b)
+    ∙ ap (λ n. get_or bytes (n - 1 - k) 0) size
+    ∙ reflected_entry args.side bytes k l)

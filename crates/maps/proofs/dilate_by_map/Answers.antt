@@ -10,11 +10,11 @@ finish_sheet-requires c =
     let lent : Buffers = record { work = args.work.now; out = args.out.now } in
     let taken = fit args.input args.sheet.now args.bytes.now args.cap args.map.now lent (sym c.in_ok-check_map.ensures) in
     map_finishes args.input args.sheet.now args.bytes.now args.cap args.work.now taken.begins args.map.now
-    c.start_by_map-run.ensures args.out.now taken.out_size
+    c.start_by_map-sound.ensures args.out.now taken.out_size
 
 pub returns : goal.returns
 returns c =
     let args = c.args in
     let lent : Buffers = record { work = args.work.now; out = args.out.now } in
     map_answered args.input args.sheet.now args.bytes.now args.cap args.map.now lent (sym c.in_ok-check_map.ensures)
-    c.start_by_map-run.ensures _ c.finish_sheet.ensures.0 c.finish_sheet.ensures.1
+    c.start_by_map-sound.ensures _ c.finish_sheet.ensures.0 c.finish_sheet.ensures.1

@@ -13,7 +13,7 @@ pack_held-requires c =
 
 pub returns : goal.returns
 returns c =
-    let run = c.args.run in (
+    let run = c.args.sound.run in (
       c.fill.ensures.after (λ y e. e) ∙ ap (λ n. replicate n 0)
           (ap length c.finish.ensures ∙ rows_length (area_of run) 0 (due run) c.args.work.now),
       c.pack_held.ensures ∙ ap (λ l. thresholded run l run.cap) c.finish.ensures,

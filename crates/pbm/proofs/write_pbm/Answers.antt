@@ -2,6 +2,7 @@
 use Rattle.std.proofs.Common.{arith}
 use Rattle.std.proofs.lemmas.Result.{err_from_is_err_and}
 use Rattle.basics.proofs.RefusalLaws.{number_positive}
+use Rattle.text.proofs.WroteLaws.{wrote_within}
 use Rattle.pbm.proofs.Writing.{sheet_refuses, write_room_refuses, header_room, sheet_in_lem, part_room, write_accepts}
 use Rattle.pbm.proofs.Writing.{small}
 use Rattle.pbm.proofs.write_pbm.Goals as goal
@@ -33,6 +34,14 @@ pub write_header-at-requires : goal.write_header-at-requires
 write_header-at-requires c =
     header_room c.args.width c.args.height c.args.sheet.now c.args.out.now c.in_ok-check_sheet.ensures (omega arith)
     c.if-out-size.false
+
+pub slice_bounds-copy_cleared-count : goal.slice_bounds-copy_cleared-count
+slice_bounds-copy_cleared-count c =
+    wrote_within _ _ _ _ (header_room c.args.width c.args.height c.args.sheet.now c.args.out.now c.in_ok-check_sheet.ensures
+    (omega arith) c.if-out-size.false) c.write_header-at.ensures
+
+pub slice_bounds-copy_cleared-start : goal.slice_bounds-copy_cleared-start
+slice_bounds-copy_cleared-start c = slice_bounds-copy_cleared-count c
 
 pub copy_cleared-requires-clause-frame : goal.copy_cleared-requires-clause-frame
 copy_cleared-requires-clause-frame c =

@@ -5,4 +5,4 @@ use Rattle.pgm.proofs.write_levels.Given as goal
 abbrev pub invariant-loop-row : goal.invariant-loop-row
 invariant-loop-row l =
     let rows = l.row-iterator in
-    LevelsWriting l.fn.header.width l.fn.header.height l.levels l.at l.initial.out rows.size rows.rest.now l.end l.out
+    LevelsWriting l.fn.header.width l.fn.header.height l.levels l.initial.out rows.size rows.rest.now l.end l.out

@@ -1,16 +1,14 @@
 -- The digits are written first, and then the byte that parts them from the number before.
-use Rattle.text.proofs.WroteLaws.{wrote_number}
-use Rattle.pgm.proofs.RowLaws.{wrote_parted}
-use Prim.Native.Nat.{◌+◌}
+use Rattle.std.proofs.Common.{arith, ap, ◌∙◌, ◌∷◌}
+use Rattle.decimal.specs.Numbers.{digits}
+use Rattle.text.proofs.WroteLaws.{wrote_number, wrote_before, wrote_as}
+use Rattle.pgm.specs.PgmText.{parting}
 use Rattle.pgm.proofs.write_parted.Goals as goal
 
 pub returns : goal.returns
 returns c =
-    let args = c.args in
-    let pre = c.requires in
-    let write_number = c.write_number-next in
-    let number = write_number in
-    wrote_parted args.level args.column args.at args.out.now number.new.out number.result
-    c.parting_byte.result pre.1
-    (wrote_number args.level (args.at + 1) args.out.now number.new.out number.result number.ensures)
-    c.parting_byte.ensures
+    let number = c.write_number-size in
+    wrote_as _ _ _ _ _
+    (ap (λ byte. byte ∷ digits c.args.level) (c.parting_byte.ensures ∙ ap (parting c.args.column) number.ensures.0))
+    (wrote_before c.parting_byte.result (digits c.args.level) c.args.out.now number.new.out number.result (omega arith)
+    (wrote_number c.args.level _ number.new.out number.result number.ensures))

@@ -21,7 +21,8 @@ returns-in_err-frame c =
 
 pub row_bytes-requires : goal.row_bytes-requires
 row_bytes-requires c =
-    (read_found c.args.input.now c.args.sheet.now c.if-input-ge-INPUT_END.false c.requires.0 c.in_ok-frame.ensures refl refl).width_most
+    (read_found c.args.input.now c.args.sheet.now c.if-input-ge-INPUT_END.false c.requires.0 c.in_ok-frame.ensures refl
+    refl).width_most
 
 pub returns : goal.returns
 returns c =

@@ -12,5 +12,5 @@ returns-then-count-gt-MOST_PIXELS c =
 
 pub returns : goal.returns
 returns c =
-    picture_prints c.args.frame.width c.args.frame.height c.args.sheet.now c.requires.0 c.if-count-gt-MOST_PIXELS.false c.args.out.now
-    c.requires.1.out_room c.run_erosion-run.ensures _ _ c.write_pgm.ensures
+    picture_prints c.args.frame.width c.args.frame.height c.args.sheet.now c.requires.0 c.if-count-gt-MOST_PIXELS.false
+    c.args.out.now c.requires.1.out_room c.run_erosion-run.ensures _ _ c.write_pgm.ensures

@@ -35,13 +35,13 @@ pub unwrap-continued-requires : goal.unwrap-continued-requires
 unwrap-continued-requires c =
     let s = started (goal.at.unwrap-continued-requires c).After-unwrap-begun in
     taken c.continue_run.result (continue_gives c.args.frame.width c.args.frame.height c.args.sheet.now c.requires.0 s
-    (c.continue_run.ensures)).0
+    c.continue_run.ensures).0
 
 pub unwrap-requires : goal.unwrap-requires
 unwrap-requires c =
     let w = whole (goal.at.unwrap-requires c).After-unwrap-continued in
-    taken c.collect.result (collect_gives c.args.frame.width c.args.frame.height c.args.sheet.now c.requires.0 w c.args.collected.now
-    c.requires.1.1 c.collect.ensures).0
+    taken c.collect.result (collect_gives c.args.frame.width c.args.frame.height c.args.sheet.now c.requires.0 w
+    c.args.collected.now c.requires.1.1 c.collect.ensures).0
 
 pub returns : goal.returns
 returns c =

@@ -5,8 +5,8 @@ use mathlib.Core.Path.{sym, ap, ◌∙◌}
 use lib.ListN.{replicate}
 use Rattle.spectrum.proofs.spectrum.Goals as goal
 
-pub first_run-run-requires : goal.first_run-run-requires
-first_run-run-requires c =
+pub first_run-sound-requires : goal.first_run-sound-requires
+first_run-sound-requires c =
     let args = c.args in
     let lent : Buffers = record { first = args.first.now; second = args.second.now; out = args.table.now } in
     opening_starts args.input args.sheet.now args.bytes.now lent (sym c.in_ok-check_spectrum.ensures)
@@ -16,15 +16,15 @@ fill_table-requires c =
     let args = c.args in
     let lent : Buffers = record { first = args.first.now; second = args.second.now; out = args.table.now } in
     let accepted = sym c.in_ok-check_spectrum.ensures in (
-      run_ready args.input args.sheet.now args.bytes.now lent accepted c.first_run-run.ensures,
-      run_levels args.input args.sheet.now args.bytes.now lent accepted c.first_run-run.ensures,
+      run_ready args.input args.sheet.now args.bytes.now lent accepted c.first_run-sound.ensures,
+      run_levels args.input args.sheet.now args.bytes.now lent accepted c.first_run-sound.ensures,
     )
 
 pub summary_of-requires : goal.summary_of-requires
 summary_of-requires c =
     let args = c.args in
     let lent : Buffers = record { first = args.first.now; second = args.second.now; out = args.table.now } in
-    is_table args.input args.sheet.now args.bytes.now lent (sym c.in_ok-check_spectrum.ensures) c.first_run-run.ensures
+    is_table args.input args.sheet.now args.bytes.now lent (sym c.in_ok-check_spectrum.ensures) c.first_run-sound.ensures
     c.fill_table.ensures.1
 
 pub returns : goal.returns
@@ -32,5 +32,5 @@ returns c =
     let args = c.args in
     let lent : Buffers = record { first = args.first.now; second = args.second.now; out = args.table.now } in
     let fills = c.fill_table.ensures in
-    answered args.input args.sheet.now args.bytes.now lent (sym c.in_ok-check_spectrum.ensures) c.first_run-run.ensures fills.1
+    answered args.input args.sheet.now args.bytes.now lent (sym c.in_ok-check_spectrum.ensures) c.first_run-sound.ensures fills.1
     (c.fill.ensures.after (λ y e. e)) (c.fill-2.ensures.after (λ y e. e) ∙ ap (λ n. replicate n 0) fills.0) c.summary_of.ensures

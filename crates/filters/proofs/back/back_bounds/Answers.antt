@@ -5,4 +5,4 @@ use Rattle.filters.proofs.back.back_bounds.Goals as goal
 pub returns : goal.returns
 returns c =
     let args = c.args in
-    held_after args.run c.back_run.result c.requires.0 c.back_run.ensures args.size c.requires.1 c.bounds_of.ensures
+    held_after args.sound.run c.back_run.result.run args.sound.taken c.back_run.ensures args.size c.requires c.bounds_of.ensures

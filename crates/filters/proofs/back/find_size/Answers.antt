@@ -1,4 +1,5 @@
--- What is marked is a start that the run of the other kind could have; after its rows the points of the set opened or closed are held.
+-- What is marked is a start that the run of the other kind could have; after its rows the points of the set opened or closed
+-- are held.
 use Rattle.run.specs.Demand2.{finished}
 use Rattle.filters.proofs.BackSteps.{back_ready, after_back}
 use Rattle.filters.proofs.FirstRuns.{found_back}

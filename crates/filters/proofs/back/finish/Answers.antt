@@ -7,10 +7,10 @@ pub unwrap-requires : goal.unwrap-requires
 unwrap-requires c =
     let args = c.args in
     let pre = c.requires in
-    has_value c.continue_run.result (finish_accepted args.run pre.0 pre.1.0 args.levels.now pre.1.1 c.continue_run.ensures)
+    has_value c.continue_run.result (finish_accepted args.sound.run args.sound.taken pre.0 args.levels.now pre.1 c.continue_run.ensures)
 
 pub returns : goal.returns
 returns c =
     let args = c.args in
     let pre = c.requires in
-    finish_rows args.run pre.0 pre.1.0 args.levels.now pre.1.1 (rw c.unwrap.ensures at c.continue_run.ensures)
+    finish_rows args.sound.run args.sound.taken pre.0 args.levels.now pre.1 (rw c.unwrap.ensures at c.continue_run.ensures)

@@ -4,10 +4,10 @@ use Rattle.filters.proofs.BackSteps.{start_is}
 use Rattle.filters.proofs.back.mark_held.Goals as goal
 
 pub bounds_of-bounds-requires : goal.bounds_of-bounds-requires
-bounds_of-bounds-requires c = ((sound c.args.run c.requires.0.taken).cap_small, c.requires.1)
+bounds_of-bounds-requires c = ((sound c.args.sound.run c.args.sound.taken).cap_small, c.requires.1)
 
 pub returns : goal.returns
 returns c =
     let args = c.args in
-    start_is args.run c.back_run-other.result c.requires.0.taken c.back_run-other.ensures args.size c.requires.1
+    start_is args.sound.run c.back_run-other.result.run c.args.sound.taken c.back_run-other.ensures args.size c.requires.1
     c.bounds_of-bounds.ensures c.on_of-on.ensures c.off_of-off.ensures args.first.now c.mark.ensures

@@ -8,7 +8,7 @@ returns-then-answer-ne1 c =
     let args = c.args in
     let h = record_read args.words.now c.in-Some.run' c.in-Some.ensures in
     picture_other args.words.now args.levels.now args.out.now args.answer.now h.0 c.in-Some.run' h.1 c.if-answer-ne1.true
-    c.at_latest.ensures c.check_pgm.ensures
+    c.at_latest.ensures c.check_pgm.ensures.0
 
 pub returns : goal.returns
 returns c =

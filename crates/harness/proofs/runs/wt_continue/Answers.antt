@@ -9,7 +9,7 @@ returns-then-answer-ne2 c =
     let args = c.args in
     let h = record_read args.words.now c.in-Some.run' c.in-Some.ensures in
     continue_other args.words.now args.levels.now args.allowance args.answer.now h.0 c.in-Some.run' h.1 c.if-answer-ne2.true
-    c.at_latest.ensures c.check_continue-judged.ensures
+    c.at_latest.ensures c.check_continue-judged.ensures.0
 
 pub write_record-requires : goal.write_record-requires
 write_record-requires c =

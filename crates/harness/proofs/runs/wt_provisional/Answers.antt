@@ -8,7 +8,7 @@ returns-then-state-ne1 c =
     let args = c.args in
     let h = record_read args.words.now c.in-Some.run' c.in-Some.ensures in
     look_other args.words.now args.levels.now args.size args.out.now args.state.now h.0 c.in-Some.run' h.1 c.if-state-ne1.true
-    c.at_latest.ensures c.check_provisional-judged.ensures
+    c.at_latest.ensures c.check_provisional-judged.ensures.0
 
 pub returns-in-Ok : goal.returns-in-Ok
 returns-in-Ok c =

@@ -4,4 +4,4 @@ use Rattle.run.proofs.RecordLaws.{sound}
 use Rattle.pgm.proofs.finished.maximum_of.Goals as goal
 
 pub overflow_add-run : goal.overflow_add-run
-overflow_add-run c = let small = (sound c.args.run c.requires).cap_small in omega arith
+overflow_add-run c = let small = (sound c.args.sound.run c.args.sound.taken).cap_small in omega arith

@@ -2,43 +2,19 @@
 use Rattle.element.proofs.ElementLaws.{side_bounds}
 use Rattle.run.proofs.RecordLaws.{sound}
 use Rattle.run.proofs.ScanCells.{scan_reaches}
-use Rattle.run.proofs.ContinueLaws.{work_lent, work_area}
-use mathlib.Core.Path.{ap, ◌∙◌}
-use Rattle.scan.specs.Scan.{scan_rows, rows_lowered}
+use Rattle.run.proofs.ContinueLaws.{work_lent}
 use native.Mathlib.Omega.{arith}
 use Rattle.run.proofs.continuing.work_rows.Goals as goal
 
 pub overflow_sub-reach : goal.overflow_sub-reach
 overflow_sub-reach c =
-    let args = c.args in
-    let pre = c.requires in
-    let s = sound args.run pre.0 in let b = side_bounds args.run.side s.side_is in omega arith
+    let run = c.args.sound.run in
+    let b = side_bounds run.side (sound run c.args.sound.taken).side_is in
+    omega arith
 
 pub scan_rows-requires : goal.scan_rows-requires
 scan_rows-requires c =
-    let args = c.args in
-    let pre = c.requires in
-    let area_width = c.area_width in
-    let area_height = c.area_height in
-    let scan_cells = c.scan_cells in
-    let s = sound args.run pre.0 in
-    let h = area_height.ensures.0 in
-    let l = pre.1.1 in (
-      work_lent args.run s args.levels.now pre.1.0 _ _ area_width.ensures.0 h,
-      (omega arith, rw scan_cells.ensures (scan_reaches args.run s)),
-    )
-
-pub returns : goal.returns
-returns c =
-    let args = c.args in
-    let pre = c.requires in
-    let area_width = c.area_width in
-    let area_height = c.area_height in
-    let scan_cells = c.scan_cells in
-    let beyond_of = c.beyond_of in
-    let same = work_area args.run (sound args.run pre.0) args.levels.now pre.1.0 _ _ area_width.ensures.0
-    area_height.ensures.0 _ _ beyond_of.ensures scan_cells.ensures in
-    let scan-rows = c.scan_rows in (
-      scan-rows.ensures.0 ∙ ap (λ a. scan_rows a args.run.rows args.count args.levels.now) same,
-      scan-rows.ensures.1 ∙ ap (λ a. rows_lowered a args.run.rows args.count args.levels.now) same,
-    )
+    let run = c.args.sound.run in
+    let s = sound run c.args.sound.taken in
+    let due = c.requires.1 in
+    rw c.area.ensures (work_lent run s c.args.levels.now c.requires.0, (due, scan_reaches run s))

@@ -1,44 +1,38 @@
 -- A sound record has a small area, which its levels cover.
 use Rattle.basics.proofs.RefusalLaws.{accepts}
-use Rattle.run.proofs.RecordLaws.{not_bad, area_small}
-use Rattle.run.proofs.PictureAnswers.{sound_record, area_canvas, is_collected, view_taken, collect_views}
+use Rattle.run.proofs.RecordLaws.{judged_good, judged_sound, area_small}
+use Rattle.run.proofs.PictureAnswers.{area_canvas, is_collected, view_taken, collect_views}
 use Rattle.run.proofs.PictureAnswers.{collect_judged, picture_released}
-use native.Mathlib.Omega.{arith}
 use mathlib.Core.Path.{sym, ◌∙◌}
+use native.Mathlib.Omega.{arith}
 use Rattle.run.proofs.pictures.collect.Goals as goal
 
 pub overflow_mul-run : goal.overflow_mul-run
 overflow_mul-run c =
-    let args = c.args in
-    let s = sound_record args.run (sym c.record_bad.ensures ∙ c.if-record_bad.false) in
-    let small = area_small args.run.height args.run.width s.high.1 s.wide.1 in
+    let run = c.args.run in
+    let s = judged_sound c.in_ok-sound.sound c.in_ok-sound.ensures.1 in
+    let small = area_small run.height run.width s.high.1 s.wide.1 in
     omega arith
 
-pub all_done-requires : goal.all_done-requires
-all_done-requires c = (not_bad c.args.run (sym c.record_bad.ensures ∙ c.if-record_bad.false)).0
-
-pub frame_of-requires : goal.frame_of-requires
-frame_of-requires c =
-    let s = sound_record c.args.run (sym c.record_bad.ensures ∙ c.if-record_bad.false) in
-    (s.side_is, s.cap_small)
-
 pub reading_of-requires : goal.reading_of-requires
-reading_of-requires c = (sound_record c.args.run (sym c.record_bad.ensures ∙ c.if-record_bad.false)).cap_small
+reading_of-requires c = (judged_sound c.in_ok-sound.sound c.in_ok-sound.ensures.1).cap_small
 
 pub copy_frame-requires : goal.copy_frame-requires
 copy_frame-requires c =
-    let args = c.args in
-    let s = sound_record args.run (sym c.record_bad.ensures ∙ c.if-record_bad.false) in
-    let taken = view_taken args.run args.levels.now _ _ _ (sym c.in_ok-check_view.ensures) in
-    rw c.frame_of.ensures.0 (area_canvas s args.levels.now taken.1, taken.2)
+    let run = c.args.run in
+    let same = c.in_ok-sound.ensures.1 in
+    let s = judged_sound c.in_ok-sound.sound same in
+    let taken = view_taken run c.args.levels.now _ _ _ (sym (rw same at c.in_ok-check_view.ensures)) in
+    rw (c.frame.ensures.0, same) (area_canvas s c.args.levels.now taken.1, taken.2)
 
 pub returns : goal.returns
 returns c =
-    let args = c.args in
-    let bad = sym c.record_bad.ensures ∙ c.if-record_bad.false in
-    let judged = collect_judged args.run args.levels.now args.out.now bad c.in_ok-check_view.ensures in
-    accepts _ (picture_released args.run (collect_views args.run args.levels.now args.out.now) tt
-    (sym judged) (sym c.all_done.ensures ∙ c.if-not-all_done.false))
+    let run = c.args.run in
+    let same = c.in_ok-sound.ensures.1 in
+    let s = judged_sound c.in_ok-sound.sound same in
+    let bad = judged_good run c.in_ok-sound.ensures.0 in
+    let judged = collect_judged run c.args.levels.now c.args.out.now bad (rw same at c.in_ok-check_view.ensures) in
+    accepts _ (picture_released run (collect_views run c.args.levels.now c.args.out.now) tt (sym judged)
+    (rw same at (sym c.all_done.ensures ∙ c.if-not-all_done.false)))
     (c.copy_frame.ensures
-    ∙ is_collected (sound_record args.run bad) args.levels.now c.frame_of.result c.frame_of.ensures.0
-    c.reading_of.result c.reading_of.ensures)
+    ∙ is_collected s c.args.levels.now c.frame.result (rw same at c.frame.ensures.0) c.reading_of.result c.reading_of.ensures)

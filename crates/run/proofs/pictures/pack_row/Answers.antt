@@ -14,7 +14,8 @@ pub loop-k-preserved : goal.loop-k-preserved
 loop-k-preserved c =
     let args = c.args in
     filling_turn _ _ _ _ _ c.loop-k.invariant (omega arith)
-    (full_of args.bounds.low args.bounds.high args.levels.now c.loop-k.k (take_rest args.levels.now (8 * c.loop-k.k)) (omega arith) c.full_byte.ensures)
+    (full_of args.bounds.low args.bounds.high args.levels.now c.loop-k.k (take_rest args.levels.now (8 * c.loop-k.k))
+    (omega arith) c.full_byte.ensures)
 
 pub returns-then-width-ne0 : goal.returns-then-width-ne0
 returns-then-width-ne0 c =
@@ -22,4 +23,5 @@ returns-then-width-ne0 c =
     let q : c.loop-k.k ≡ length args.levels.now / 8 = omega arith in
     let h = rw q at c.loop-k.invariant in
     filling_end _ _ _ _ (filling_turn _ _ _ _ _ h (omega arith)
-    (end_of args.bounds.low args.bounds.high args.levels.now _ (take_rest args.levels.now (8 * (length args.levels.now / 8))) refl c.last_byte.ensures)) (omega arith)
+    (end_of args.bounds.low args.bounds.high args.levels.now _ (take_rest args.levels.now (8 * (length args.levels.now / 8)))
+    refl c.last_byte.ensures)) (omega arith)

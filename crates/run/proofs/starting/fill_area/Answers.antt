@@ -1,7 +1,6 @@
-use Rattle.run.proofs.PartLaws.{rows_start, rows_inside, rows_room, rows_turn}
+use Rattle.run.proofs.PartLaws.{rows_start, rows_inside, rows_turn}
 use Rattle.run.proofs.StartLaws.{start_raster}
 use native.Mathlib.Omega.{arith}
-use mathlib.Core.Path.{◌∙◌}
 use Rattle.run.proofs.starting.fill_area.Goals as goal
 
 pub loop-row-init : goal.loop-row-init
@@ -11,13 +10,13 @@ pub slice_bounds-fill_row-end : goal.slice_bounds-fill_row-end
 slice_bounds-fill_row-end c =
     rows_inside c.loop-row.invariant c.area_width-side.ensures (rw c.area_height-row-end.ensures at c.loop-row-test.true)
 
-pub fill_row-requires : goal.fill_row-requires
-fill_row-requires c =
-    let side = c.area_width-side.ensures in
-    (rows_room c.loop-row.invariant side (rw c.area_height-row-end.ensures at c.loop-row-test.true) ∙ side, (c.requires.0.wide, (c.requires.0.high, (c.requires.1, rw c.area_height-row-end.ensures at c.loop-row-test.true))))
-
 pub loop-row-preserved : goal.loop-row-preserved
-loop-row-preserved c = rows_turn c.loop-row.invariant c.area_width-side.ensures (rw c.area_height-row-end.ensures at c.loop-row-test.true) c.fill_row.ensures
+loop-row-preserved c =
+    rows_turn c.loop-row.invariant c.area_width-side.ensures (rw c.area_height-row-end.ensures at c.loop-row-test.true)
+    c.fill_row.ensures
 
 pub returns : goal.returns
-returns c = start_raster c.args.starts.on c.args.starts.off c.args.starts.outside c.args.sheet.now c.args.frame c.loop-row.invariant (let h = c.area_height-row-end.ensures in omega arith)
+returns c =
+    let starts = c.args.starts in
+    let high = c.area_height-row-end.ensures in
+    start_raster starts.on starts.off starts.outside c.args.sheet.now c.args.frame c.loop-row.invariant (omega arith)

@@ -1,17 +1,13 @@
 -- The frame is read in its part of the levels, between the bounds of what is held.
-use Rattle.run.proofs.RecordLaws.{sound}
 use Rattle.filters.proofs.BackSteps.{back_canvas}
 use Rattle.spectrum.proofs.Finding.{found_counted}
 use Rattle.spectrum.proofs.counting.count_found.Goals as goal
 
-pub frame_of-requires : goal.frame_of-requires
-frame_of-requires c = let s = sound c.args.run c.requires.0 in (s.side_is, s.cap_small)
-
 pub count_frame-requires : goal.count_frame-requires
-count_frame-requires c = rw c.frame_of.ensures.0 (back_canvas c.args.run c.requires.0 c.requires.1.0)
+count_frame-requires c = rw c.frame.ensures.0 (back_canvas c.args.sound.run c.args.sound.taken c.requires.0)
 
 pub returns : goal.returns
 returns c =
     let args = c.args in
-    found_counted args.run args.size args.second.now c.frame_of.ensures.0 c.back_bounds-bounds.result
+    found_counted args.sound.run args.size args.second.now c.frame.ensures.0 c.back_bounds-bounds.result
     c.back_bounds-bounds.ensures c.count_frame.ensures
