@@ -146,7 +146,7 @@ impl Bounds {
 // The levels that a run holds at a size: above the size for a plain erosion; from 1 to the size and one for a dilation; for a
 // cropped sheet's erosion, whose levels are collected one less, above the size and one, at most R + 1.
 pub fn bounds_of(run: Record, size: usize) -> Bounds
-    requires { (run.cap ≤ highest_cap) × (size ≤ largest_size) }
+    requires { size ≤ largest_size }
     ensures { result ≡ bounds_of run size }
 {
     let kind = kind_of(run);

@@ -1,10 +1,6 @@
 -- A level lies within the two bounds of a size exactly where the run holds it, so what is marked is the start of the way back.
-use Rattle.run.proofs.RecordLaws.{sound}
 use Rattle.filters.proofs.BackSteps.{start_is}
 use Rattle.filters.proofs.back.mark_held.Goals as goal
-
-pub bounds_of-bounds-requires : goal.bounds_of-bounds-requires
-bounds_of-bounds-requires c = ((sound c.args.sound.run c.args.sound.taken).cap_small, c.requires.1)
 
 pub returns : goal.returns
 returns c =

@@ -8,8 +8,7 @@ pub bounds_of-bounds-requires : goal.bounds_of-bounds-requires
 bounds_of-bounds-requires c =
     let run = c.args.sound.run in
     let taken = provisional_taken run c.args.levels.now c.args.out.now c.args.size c.requires in
-    let s = sound run c.args.sound.taken in
-    (s.cap_small, size_small s c.args.size taken.1)
+    size_small (sound run c.args.sound.taken) c.args.size taken.1
 
 pub pack_frame-requires : goal.pack_frame-requires
 pack_frame-requires c =
