@@ -35,6 +35,10 @@ module _ (limit : ℕ) (entries : List ℕ) (i : ℕ) where
   pub above_found : i < length entries → limit < get_or entries i 0 → any_above limit (drop i entries) ≡ true
   above_found l h = above_next l ∙ rw (lt-ltb limit (get_or entries i 0) h)
 
+  pub above_passed : i < length entries → get_or entries i 0 ≤ limit
+      → any_above limit (drop i entries) ≡ any_above limit (drop (i + 1) entries)
+  above_passed l h = above_next l ∙ rw (le-ltb limit (get_or entries i 0) h)
+
   pub above_end : length entries ≤ i → any_above limit (drop i entries) ≡ false
   unfolding any_above
   above_end l = rw (drop_of_length-le entries l)

@@ -31,6 +31,24 @@ module _ {A : Type 0} (f : ℕ → A) where
   table_is n d l s h = ext_get_or d l (table n f) (s ∙ sym (length-table n))
       (λ k b. h k (omega arith) ∙ sym (get_or-table n k d (omega arith)))
 
+  -- a loop that fills a buffer: no turn yet, one turn more, all of it
+  pub filled_none : (buffer : List A) → filled 0 f buffer ≡ buffer
+  unfolding filled table
+  filled_none buffer = refl
+
+  pub filled_more : (i : ℕ) (buffer now : List A) (v : A) → i < length buffer → now ≡ filled i f buffer → v ≡ f i
+      → set now i v ≡ filled (i + 1) f buffer
+  unfolding filled table
+  filled_more i buffer now v l e q =
+      rw (e, q, drop-cons buffer i v l)
+      (set_at (table i f) (get_or buffer i v) (drop (suc i) buffer) (f i) i (length-table i)
+      ∙ sym (append_assoc (table i f) (f i ∷ []) (drop (suc i) buffer)) ∙ ap (λ n. table n f ++ drop n buffer) (sym (add-one i)))
+
+  pub length-filled : (n : ℕ) (buffer : List A) → n ≤ length buffer → length (filled n f buffer) ≡ length buffer
+  unfolding filled
+  length-filled n buffer l = let e = length-append (table n f) (drop n buffer) in let t = length-table n in
+      let d = length-drop n buffer in omega arith
+
 -- a loop that fills a whole array of n entries: the first i are f's
 pub record Filling {A : Type 0} (n : ℕ) (f : ℕ → A) (i : ℕ) (out : List A) : Type 0 where
   pub below : i ≤ n

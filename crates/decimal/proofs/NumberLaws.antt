@@ -51,11 +51,11 @@ by_tens P one more n = go n n (omega arith)
 
 -- what a digit is
 module _ (byte : ℕ) where
-  digit_low : byte < 48 → false ≡ is_digit byte
+  pub digit_low : byte < 48 → false ≡ is_digit byte
   unfolding is_digit
   digit_low l = rw (lt-leb 48 byte l)
 
-  digit_high : 48 ≤ byte → leb byte 57 ≡ is_digit byte
+  pub digit_high : 48 ≤ byte → leb byte 57 ≡ is_digit byte
   unfolding is_digit
   digit_high l = rw (le-leb 48 byte l)
 

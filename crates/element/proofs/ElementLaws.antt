@@ -70,6 +70,10 @@ module _ (side p : ℕ) where
   unfolding is_held
   held_low l = rw (lt-leb (3 - reach side) p l)
 
+  pub held_high : 3 - reach side + side ≤ p → is_held side p ≡ false
+  unfolding is_held
+  held_high l = rw (le-leb (3 - reach side) p (omega arith), le-ltb p (3 - reach side + side) l)
+
   pub held_in : 3 - reach side ≤ p → p < 3 - reach side + side → is_held side p ≡ true
   unfolding is_held
   held_in l h = rw (le-leb (3 - reach side) p l, lt-ltb p (3 - reach side + side) h)

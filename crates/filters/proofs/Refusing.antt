@@ -178,6 +178,15 @@ module _ (input : Input) (sheet bytes : List ℕ) (size : ℕ) (packed : Bool) (
   joined : (area : ℕ) → first (both area) ≡ first (joint area)
   joined area = one_entry (not (eqb one area)) (not (eqb two area)) 10 _
 
+  pub closing_list : first (work_refusals input sheet bytes (plan_of true size packed) one two ++ rest)
+      ≡ first (input_refusals input sheet bytes ++
+      (8, ltb highest_cap size) ∷ (9, is_canvas_wrong input size) ∷ joint (closing_size input size))
+  closing_list =
+      first_alike (input_refusals input sheet bytes)
+      ((8, ltb highest_cap size) ∷ (9, is_canvas_wrong input size) ∷ both (closing_size input size))
+      ((8, ltb highest_cap size) ∷ (9, is_canvas_wrong input size) ∷ joint (closing_size input size)) tt
+      (λ _. ap (λ n. cond (ltb highest_cap size) 8 (cond (is_canvas_wrong input size) 9 n)) (joined (closing_size input size)))
+
   pub opening_list : first (work_refusals input sheet bytes (plan_of false size packed) one two ++ rest)
       ≡ first (input_refusals input sheet bytes ++ (8, ltb largest_size size) ∷ joint (frame_size input))
   opening_list =
@@ -204,8 +213,20 @@ module _ (input : Input) (sheet bytes : List ℕ) where
   open_answered size lent = answers_alike (opening_list input sheet bytes size true (length lent.first) (length lent.second)
       (out_refusal input true lent))
 
+  pub close_answered : (size : ℕ) (lent : Buffers) {number : ℕ} {after : Buffers}
+      → SheetAnswered input sheet bytes (plan_of true size true) lent number after
+      → Closes input sheet bytes size lent number after
+  close_answered size lent = answers_alike (closing_list input sheet bytes size true (length lent.first) (length lent.second)
+      (out_refusal input true lent))
+
   pub opening_answered : (lent : Buffers) {number : ℕ} {after : Buffers}
       → LevelsAnswered input sheet bytes (plan_of false 0 false) lent number after
       → OpeningLevels input sheet bytes lent number after
   opening_answered lent = answers_alike (opening_list input sheet bytes 0 false (length lent.first) (length lent.second)
+      (out_refusal input false lent))
+
+  pub closing_answered : (cap : ℕ) (lent : Buffers) {number : ℕ} {after : Buffers}
+      → LevelsAnswered input sheet bytes (plan_of true cap false) lent number after
+      → ClosingLevels input sheet bytes cap lent number after
+  closing_answered cap lent = answers_alike (closing_list input sheet bytes cap false (length lent.first) (length lent.second)
       (out_refusal input false lent))

@@ -18,7 +18,7 @@ const HIGHEST_BYTE: u64 = 255;
 
 // Whether no record is held in the words: there are more or fewer, or the kind, a cell or the edge rule is more than a byte.
 #[tactic(auto, unfolding(crate::specs::Boundary::holds_no_record))]
-fn holds_no_record(words: &[u64]) -> bool
+pub fn holds_no_record(words: &[u64]) -> bool
     ensures { result ≡ holds_no_record words.now }
 {
     words.len() != RECORD_WORDS || HIGHEST_BYTE < words[0] || any_wide(&words[RECORD_NUMBERS..])

@@ -19,7 +19,7 @@ use Rattle.pbm.specs.Pbm.{cleared}
 use Rattle.pbm.proofs.PackingLaws.{packed_byte}
 
 -- byte k of the packed sheet
-abbrev packed_at : ℕ → List ℕ → ℕ → ℕ
+abbrev pub packed_at : ℕ → List ℕ → ℕ → ℕ
 packed_at width bytes k = byte_packed width (pixel width bytes (k / row_bytes width)) (k % row_bytes width)
 
 module _ (width : ℕ) (bytes : List ℕ) (k : ℕ) (byte : get_or bytes k 0 < 256) where

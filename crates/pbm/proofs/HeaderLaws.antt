@@ -3,7 +3,7 @@ use Prim.Native.Nat.{ℕ, ◌+◌, ◌≤◌, ◌<◌, min}
 use native.Mathlib.Decide.{dec_lt, ℕ_discrete}
 use native.Mathlib.Omega.{arith}
 use mathlib.Core.Path.{◌≡◌, refl, sym, ap, ap₂, ◌∙◌}
-use mathlib.Core.Bool.{Bool, true, false, not, true≢false, false≢true}
+use mathlib.Core.Bool.{Bool, true, false, not, ◌&&◌, true≢false, false≢true}
 use mathlib.Core.Logic.{◌≢◌}
 use mathlib.Core.List.{List, [], ◌∷◌}
 use lib.Dec.{eqb}
@@ -25,6 +25,24 @@ use Rattle.pbm.specs.Steps.{amount_end, FieldRead, HeaderRead}
 use Rattle.pbm.proofs.RunLaws.{run_short, run_none, run_there, digit_run_lem}
 
 -- "P4"
+pub p4_short : (file : List ℕ) → length file < 2 → false ≡ begins_p4 file
+unfolding begins_p4
+p4_short [] l = refl
+p4_short (a ∷ []) l = go (eqb a 80)
+  where
+    go : (b : Bool) → false ≡ b && false
+    go true = refl
+    go false = refl
+p4_short (a ∷ b ∷ rest) l = absurd (omega arith)
+
+module _ (file : List ℕ) where
+  pub p4_long : begins_p4 file ≡ true → 2 ≤ length file
+  p4_long e = go (dec_lt (length file) 2)
+    where
+      go : Dec (length file < 2) → 2 ≤ length file
+      go (yes l) = absurd (false≢true (p4_short file l ∙ e))
+      go (no l) = omega arith
+
 eqb_turned : (m n : ℕ) → eqb m n ≡ eqb n m
 eqb_turned m n = go (ℕ_discrete m n)
   where

@@ -37,10 +37,19 @@ module _ (column size : ℕ) where
   unfolding column_after
   after_begins e = rw e
 
+-- a number leaves its line at most a blank and its own digits longer
+pub after_bounded : (column size : ℕ) → column_after column size ≤ column + 1 + size
+unfolding column_after
+after_bounded column size = go (stays column size)
+  where
+    go : (b : Bool) → cond b (column + 1 + size) size ≤ column + 1 + size
+    go true = omega arith
+    go false = omega arith
+
 -- a number of five digits or less leaves its line within its width
-after_bounded : (column size : ℕ) → size ≤ 5 → column_after column size ≤ line_width
+after_within : (column size : ℕ) → size ≤ 5 → column_after column size ≤ line_width
 unfolding column_after stays
-after_bounded column size small = go (leb (column + 1 + size) line_width) refl
+after_within column size small = go (leb (column + 1 + size) line_width) refl
   where
     go : (b : Bool) → leb (column + 1 + size) line_width ≡ b → cond b (column + 1 + size) size ≤ line_width
     go true e = leb-true (column + 1 + size) line_width e
@@ -103,7 +112,7 @@ module _ {rest : List ℕ} {start : ℕ} {buffer : List ℕ} {end column i : ℕ
       let five : length (digits here) ≤ 5 = length_below 5 here (omega arith) (omega arith) in
       let f : after ≡ column_after column (length (digits here)) =
       e ∙ ap (column_after column) (let m : size - 1 ≡ length (digits here) = omega arith in m) in
-      let b = after_bounded column (length (digits here)) five in
+      let b = after_within column (length (digits here)) five in
       record {
         text = h.text ++ step;
         wrote = wrote_both h.text step buffer out part end size h.wrote p;

@@ -124,6 +124,10 @@ module _ (width height maximum done due : ℕ) (levels : List ℕ) (h : Picture 
         small_maximum = h.small_maximum;
       }
 
+  pub levels_few : length levels ≤ longest_side * longest_side
+  levels_few = let m : height * width ≤ longest_side * longest_side = mul-le-mul h.height_most h.width_most in let s = h.size in
+      omega arith
+
   pub text_size : length (pgm_text width height maximum done due levels)
       ≡ length (pgm_header plain_magic done due width height maximum) + levels_size levels
   unfolding pgm_text

@@ -17,7 +17,7 @@ use Rattle.std.proofs.lemmas.List.{places}
 use Rattle.basics.proofs.BoundLaws.{both}
 use Rattle.row.specs.declared.Area.{Area}
 use Rattle.row.specs.RowRule.{none, more, cell_number, within, level_at, partner, least}
-use Rattle.row.specs.Passes.{Pass, column_at}
+use Rattle.row.specs.Passes.{Pass, column_at, first_other}
 use Rattle.row.proofs.Pass.{more_least, pass_as, pass_and, pass_none}
 
 -- an earlier row ends before a later one begins
@@ -169,3 +169,9 @@ module _ (area : Area) (row k : ℕ) (levels worked : List ℕ) where
       pass_as _ _ worked _ _ after
       (λ col h. ap more (column_lent area.width from area.beyond levels (col + k % 7) room)
       ∙ rw (← at) at (cell_in area levels row col k z in_area_lem)) P
+
+-- the 21 cells of other rows are those before cell 21, or those from cell 28 on
+pub other_cells : (upward : Bool) (n : ℕ) → n < 21 → first_other upward + n < 49
+unfolding first_other
+other_cells false n h = omega arith
+other_cells true n h = omega arith

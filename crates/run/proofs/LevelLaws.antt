@@ -1,17 +1,33 @@
 -- What the tests on one number decide: a pixel that is 1, a level as it is read, a level that is held.
 use Prim.Native.Nat.{ℕ, suc, ◌+◌, ◌-◌, ◌≤◌, ◌<◌, min}
 use native.Mathlib.Decide.{dec_lt}
+use native.Mathlib.Nat.{sub-zero}
 use native.Mathlib.Omega.{arith}
 use mathlib.Core.Path.{◌≡◌, refl, sym, ◌∙◌}
 use mathlib.Core.Bool.{Bool, true, false, cond, ◌&&◌, ◌||◌}
 use mathlib.Core.Logic.{◌≢◌, ◌↔◌}
 use lib.Dec.{eqb, leb, ltb}
 use mir.Val.{bool_byte}
-use borrow.Author.Tests.{lt-ltb, le-ltb, le-leb, leb-true, leb-false, eq-eqb, ne_eqb}
+use borrow.Author.Tests.{lt-ltb, le-ltb, le-leb, lt-leb, leb-true, leb-false, eq-eqb, ne_eqb}
 use Rattle.basics.proofs.BoundLaws.{both}
 use Rattle.row.specs.RowRule.{none}
+use Rattle.run.specs.declared.kinds.Reading.{Reading}
 use Rattle.run.specs.Kinds.{cropped_level}
-use Rattle.run.specs.Patches.{held_between}
+use Rattle.run.specs.Patches.{read_as, held_between}
+
+-- a level as it is read
+module _ (reading : Reading) (level : ℕ) where
+  pub read_above : level ≤ none → reading.limit < level → reading.other ≡ read_as reading level
+  unfolding read_as
+  read_above small l = rw (ne_eqb reading.limit none (λ e. omega arith), lt-leb level reading.limit l)
+
+  pub read_within : level ≤ reading.limit → level - reading.less ≡ read_as reading level
+  unfolding read_as
+  read_within l = rw (le-leb level reading.limit l) (go (eqb reading.limit none))
+    where
+      go : (t : Bool) → level - reading.less ≡ cond (t || true) (level - reading.less) reading.other
+      go true = refl
+      go false = refl
 
 -- a level from 1 to n + 1, as a test
 pub range_iff : (n level : ℕ) → ((0 < level) × (level ≤ suc n)) ↔ (leb 1 level && leb level (suc n) ≡ true)
@@ -34,6 +50,10 @@ cropped_above R n level small l = go (leb level (suc R)) refl
         let m = leb-false level (suc R) e in
         lt-ltb (min n R + 1) level (omega arith) ∙ sym (lt-ltb n none (omega arith))
 
+pub read_same : (other level : ℕ) → read_as (record { limit = none; less = 0; other = other }) level ≡ level
+unfolding read_as
+read_same other level = sub-zero level
+
 -- a test as a byte
 pub held_byte : (t : Bool) → bool_byte t ≡ cond t 1 0
 held_byte true = refl
@@ -45,6 +65,18 @@ module _ (low high level : ℕ) where
   held_low l = rw (le-ltb low level l) (go (eqb high none || leb level high))
     where
       go : (t : Bool) → ◌≡◌ {A = ℕ} 0 (cond (t && false) 1 0)
+      go true = refl
+      go false = refl
+
+  pub held_high : level ≤ none → high < level → 0 ≡ held_between low high level
+  unfolding held_between
+  held_high small l = rw (ne_eqb high none (λ e. omega arith), lt-leb level high l)
+
+  pub held_in : low < level → level ≤ high → 1 ≡ held_between low high level
+  unfolding held_between
+  held_in a b = rw (lt-ltb low level a, le-leb level high b) (go (eqb high none))
+    where
+      go : (t : Bool) → ◌≡◌ {A = ℕ} 1 (cond ((t || true) && true) 1 0)
       go true = refl
       go false = refl
 

@@ -24,6 +24,30 @@ patch_none at f buffer = record {
 }
 
 module _ {at n : ℕ} {f : ℕ → ℕ} {buffer after : List ℕ} (P : Patch at n f buffer after) where
+  -- a turn of a loop that fills a stretch, one store a turn
+  pub patch_turn : (v : ℕ) → at + n < length buffer → v ≡ f n → Patch at (n + 1) f buffer (set after (at + n) v)
+  patch_turn v room is =
+      let long = P.size in
+      let other : (k : ℕ) → (k ≡ at + n → ⊥)
+      → get_or (set after (at + n) v) k 0 ≡ get_or after k 0 = λ k h. get_or-set_other after (at + n) k v 0 h in
+      record {
+        size = length-set after (at + n) v ∙ long;
+        inside = λ i h. go i h (dec_lt i n);
+        earlier = λ k h. other k (λ q. omega arith) ∙ P.earlier k h;
+        later = λ k h. other k (λ q. omega arith) ∙ P.later k (omega arith);
+      }
+    where
+      go : (i : ℕ) → i < n + 1 → Dec (i < n) → get_or (set after (at + n) v) (at + i) 0 ≡ f i
+      go i h (yes l) = get_or-set_other after (at + n) (at + i) v 0 (λ q. omega arith) ∙ P.inside i l
+      go i h (no l) =
+          let q : i ≡ n = omega arith in
+          let long = P.size in
+          ap (λ j. get_or (set after (at + n) v) (at + j) 0) q ∙ get_or-set_same after (at + n) v 0 (omega arith) ∙ is ∙ ap f (sym q)
+
+  -- the end of such a loop
+  pub patch_all : (m : ℕ) → n ≡ m → Patch at m f buffer after
+  patch_all m e = rw (← e) P
+
   -- a stretch that follows it
   pub patch_join : {m : ℕ} {g : ℕ → ℕ} {last : List ℕ} → Patch (at + n) m g after last → ((i : ℕ) → i < m → g i ≡ f (n + i))
       → Patch at (n + m) f buffer last
@@ -40,6 +64,10 @@ module _ {at n : ℕ} {f : ℕ → ℕ} {buffer after : List ℕ} (P : Patch at 
           let a : at + i ≡ at + n + (i - n) = omega arith in
           let b : n + (i - n) ≡ i = omega arith in
           ap (λ k. get_or last k 0) a ∙ Q.inside (i - n) (omega arith) ∙ same (i - n) (omega arith) ∙ ap f b
+
+  -- the same entries by another rule
+  pub patch_as : (g : ℕ → ℕ) → ((i : ℕ) → i < n → f i ≡ g i) → Patch at n g buffer after
+  patch_as g same = record { size = P.size; inside = λ i l. P.inside i l ∙ same i l; earlier = P.earlier; later = P.later }
 
 -- the rows above `row` of a raster are filled
 pub record Rows (width : ℕ) (f : ℕ → ℕ → ℕ) (row : ℕ) (buffer after : List ℕ) : Type 0 where
@@ -67,6 +95,10 @@ pub row_end : (width height row : ℕ) → row < height → row * width + width 
 row_end width height row l = let m = mul-le-mul_right width l in let e = suc-mul row width in omega arith
 
 module _ {width height margin : ℕ} {levels : List ℕ} (given : Canvas width height margin levels) where
+  -- levels of the same length serve as well
+  pub canvas_after : {after : List ℕ} → length after ≡ length levels → Canvas width height margin after
+  canvas_after e = record { wide = given.wide; high = given.high; room = e ∙ given.room }
+
   -- a row of the area is in the levels, and its places are small numbers
   pub row_room : (row : ℕ) → row < canvas_side height margin
       → (row * canvas_side width margin + canvas_side width margin ≤ length levels) × (length levels ≤ 4096 * 4096)

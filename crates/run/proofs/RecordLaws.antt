@@ -1,5 +1,5 @@
 -- What the tests on a record decide, and what a sound record is: everything that the code and the theorems need of it.
-use Prim.Native.Nat.{◌*◌, ℕ, ◌+◌, ◌≤◌, ◌<◌}
+use Prim.Native.Nat.{◌*◌, ℕ, ◌+◌, ◌-◌, ◌≤◌, ◌<◌}
 use native.Mathlib.Nat.{mul-le-mul}
 use native.Mathlib.Numerals.{add-one}
 use native.Mathlib.Omega.{arith}
@@ -10,13 +10,14 @@ use mathlib.Core.List.{List, [], ◌∷◌}
 use lib.Dec.{eqb, ltb}
 use lib.ListN.{length, get_or, drop, drop_of_length-le}
 use lib.Seq.{drop-cons}
-use borrow.Author.Tests.{eqb-true, eqb-false, ltb-false, not-false}
+use borrow.Author.Tests.{le-leb, eqb-true, eqb-false, ltb-false, not-false}
 use Rattle.basics.specs.Refusals.{first}
 use Rattle.basics.proofs.BoundLaws.{neither}
 use Rattle.basics.proofs.RefusalLaws.{passed}
 use Rattle.basics.specs.Bounds.{any_above}
 use Rattle.grid.specs.Figures.{reach}
 use Rattle.element.specs.Elements.{is_side, count_set}
+use Rattle.element.specs.Cells.{is_held}
 use Rattle.element.proofs.ElementLaws.{side_bounds}
 use Rattle.sheet.specs.Sheets.{is_side_out}
 use Rattle.sheet.proofs.FrameLaws.{side_in}
@@ -26,6 +27,11 @@ use Rattle.run.specs.declared.kinds.Kind.TheVariants.{Eroding, Dilating, Croppin
 use Rattle.run.specs.Kinds.{by_kind, erosion_kind, dilation_kind, background_beyond, foreground_beyond}
 use Rattle.run.specs.Records.{margin_of, area_width, area_height, due, outside, any_outside, element_foreign}
 use Rattle.run.specs.Records.{kind_foreign, cap_foreign, foreign, record_bad}
+
+-- places of the seven
+pub held_from_lem : (side p : ℕ) → 3 - reach side ≤ p → ltb p (3 - reach side + side) ≡ is_held side p
+unfolding is_held
+held_from_lem side p l = rw (le-leb (3 - reach side) p l)
 
 -- the cells from k on
 module _ (side : ℕ) (cells : List ℕ) (k : ℕ) where

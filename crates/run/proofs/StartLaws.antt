@@ -1,6 +1,6 @@
 -- The start levels, row by row: off the frame's rows all is outside; in them the left margin, the pixels and the right margin
 -- follow one another.
-use Prim.Native.Nat.{ℕ, ◌+◌, ◌-◌, ◌≤◌, ◌<◌}
+use Prim.Native.Nat.{ℕ, ◌+◌, ◌-◌, ◌*◌, ◌≤◌, ◌<◌}
 use native.Mathlib.Nat.{zero-add}
 use native.Mathlib.Omega.{arith}
 use mathlib.Core.Path.{◌≡◌, refl, ◌∙◌}
@@ -13,11 +13,17 @@ use Rattle.std.proofs.lemmas.List.{length-take-le}
 use borrow.Author.Tests.{lt-ltb, le-ltb, le-leb, lt-leb}
 use Rattle.basics.specs.Tables.{table}
 use Rattle.basics.proofs.TableLaws.{Filling, filling_start, filling_end, table_same}
-use Rattle.sheet.specs.Sheets.{pixel}
+use Rattle.sheet.specs.Sheets.{pixel, row_bytes}
 use Rattle.run.specs.Records.{canvas_side}
 use Rattle.run.specs.Starting.{framed, start_level, start_area}
 use Rattle.run.specs.declared.records.Frame.{Frame}
+use Rattle.run.proofs.PatchLaws.{row_end}
 use Rattle.run.proofs.PartLaws.{filling_part, replicate_is, RowsFilled, rows_end}
+
+-- a row of the frame is in the sheet
+pub row_bytes_lem : (width height margin row : ℕ) → margin ≤ row → row < margin + height
+    → (row - margin) * row_bytes width + row_bytes width ≤ height * row_bytes width
+row_bytes_lem width height margin row a b = row_end (row_bytes width) height (row - margin) (omega arith)
 
 module _ (width height margin : ℕ) (sheet : List ℕ) (on off outside row : ℕ) where
   abbrev level_here : ℕ → ℕ

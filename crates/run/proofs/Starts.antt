@@ -14,14 +14,21 @@ use Rattle.basics.specs.Refusals.{Refusal, first}
 use Rattle.basics.proofs.RefusalLaws.{judged_next, first_both, passed, rule_unique}
 use Rattle.grid.specs.Figures.{reach}
 use Rattle.element.specs.Elements.{element_refusals}
+use Rattle.element.specs.Cells.{centred, flat}
 use Rattle.element.proofs.Accepted.{Accepted, accepted}
 use Rattle.sheet.specs.Sheets.{row_bytes, sheet_refusals}
 use Rattle.sheet.proofs.FrameLaws.{frame_sides, sheet_accepted}
 use Rattle.run.specs.declared.Record.{Record}
 use Rattle.run.specs.Records.{margin_of, canvas_side}
-use Rattle.run.specs.Starting.{erosion_refusals, StartsErosion, canvas_size, canvas_refusals}
+use Rattle.run.specs.Starting.{fresh_record, erosion_refusals, StartsErosion, canvas_size, canvas_refusals}
 use Rattle.run.specs.Starting.{dilation_refusals, StartsDilation, StartsCropped}
 use Rattle.run.specs.Patches.{Canvas}
+
+-- the record of an accepted start
+pub fresh_record_lem : (kind edge width height cap side : ℕ) (bytes cells : List ℕ) → cells ≡ flat (centred side bytes)
+    → record { kind = kind; width = width; height = height; cap = cap; side = side; rows = 0; cells = cells; edge = edge }
+    ≡ fresh_record kind edge width height cap side bytes
+fresh_record_lem kind edge width height cap side bytes cells e = rw e
 
 -- what an accepted start has: a sound frame, the sheet's bytes, and a sound element
 pub record Judged (width height : ℕ) (sheet : List ℕ) (side : ℕ) (bytes : List ℕ) : Type 0 where

@@ -6,7 +6,7 @@ use native.Mathlib.Nat.{add-mul, zero-mul, mul-le-mul_right}
 use native.Mathlib.Decide.{ℕ_discrete, dec_lt}
 use native.Mathlib.Omega.{arith}
 use mathlib.Core.Path.{◌≡◌, refl, sym, ap, ap₂, ◌∙◌}
-use mathlib.Core.Bool.{Bool, true, cond, ◌&&◌}
+use mathlib.Core.Bool.{Bool, true, false, cond, ◌&&◌}
 use mathlib.Core.Logic.{◌≢◌, ◌⊎◌, inl, inr}
 use mathlib.Core.List.{List, [], ◌∷◌, ◌++◌, append-nil}
 use lib.Dec.{eqb, leb, ltb}
@@ -19,7 +19,7 @@ use Rattle.row.specs.RowRule.{columns, row_rule, points_lowered}
 use Rattle.row.proofs.Least.{least_as}
 use Rattle.row.proofs.Lowered.{lowered_behind}
 use borrow.Rule.Slice.PartMut.{put_mid}
-use Rattle.scan.specs.Scan.{area, Lent, Within}
+use Rattle.scan.specs.Scan.{area, Lent, Within, Reaches}
 
 -- a store past the seam
 set-append : (p q : List ℕ) (i v : ℕ) → set (p ++ q) (length p + i) v ≡ p ++ set q i v
@@ -160,6 +160,15 @@ module _ (width height beyond : ℕ) (cells : List (List ℕ)) (upward : Bool) (
 pub up_within : (row : ℕ) (cells : List (List ℕ)) → Within true row row cells
 unfolding first_met
 up_within row cells = record { met = λ k a b c. inr (omega arith) }
+
+-- and going down, in the part that begins `reach` rows before it, or at the first row
+pub down_within : (reach row : ℕ) (cells : List (List ℕ)) → Reaches reach cells → Within false (row - min row reach) row cells
+unfolding first_met
+down_within reach row cells r = record { met = λ k a b c. go k (r.above k (omega arith) c) (dec_lt row reach) }
+  where
+    go : (k : ℕ) → 3 ≤ k / 7 + reach → Dec (row < reach) → (row - min row reach ≡ 0) ⊎ (row - min row reach + 3 ≤ row + k / 7)
+    go k h (yes l) = inl (omega arith)
+    go k h (no n) = inr (omega arith)
 
 -- what was lent from a place on comes back in its place
 module _ (at : ℕ) (levels : List ℕ) where
