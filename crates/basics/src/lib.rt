@@ -2,8 +2,10 @@
 // and the refusals.
 #![tactic(auto)]
 
+mod copying;
 mod refusal;
 
+pub use copying::copy;
 pub use refusal::Refusal;
 
 // A side of a frame or of a canvas.

@@ -28,18 +28,18 @@ pub fn answer(
         height,
         side,
     };
-    let record = records::record_of(case.run)?;
+    let record = || records::record_of(case.run);
     match case.call {
         Call::StartErosion => starting::start_erosion(input, sheet, cells, first).map(drop),
         Call::StartDilation => {
             starting::start_dilation(input, sheet, cells, number, first).map(drop)
         }
         Call::StartCropped => starting::start_cropped(input, sheet, cells, number, first).map(drop),
-        Call::ContinueRun => run::continuing::continue_run(record, first, number).map(drop),
-        Call::Collect => run::pictures::collect(record, first, levels),
-        Call::Threshold => run::pictures::threshold(record, first, number, out),
-        Call::Provisional => run::provisional::provisional(record, first, number, out).map(drop),
-        Call::WritePgm => pgm::finished::write_pgm(record, first, out).map(drop),
+        Call::ContinueRun => run::continuing::continue_run(record()?, first, number).map(drop),
+        Call::Collect => run::pictures::collect(record()?, first, levels),
+        Call::Threshold => run::pictures::threshold(record()?, first, number, out),
+        Call::Provisional => run::provisional::provisional(record()?, first, number, out).map(drop),
+        Call::WritePgm => pgm::finished::write_pgm(record()?, first, out).map(drop),
         Call::Reflect => element::reflect(side, cells, out),
         Call::ReadPbm => pbm::read_pbm(file, out).map(drop),
         Call::WritePbm => pbm::write_pbm(width, height, sheet, out).map(drop),

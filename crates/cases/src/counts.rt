@@ -1,7 +1,7 @@
 // How many points slices of rows lower, of an erosion of a sheet of 3 by 3 with the cross.
 use super::elements::{self, CROSS};
+use super::fault::Result;
 use super::lines;
-use anyhow::Result;
 use basics::Refusal;
 
 // The second of two slices.

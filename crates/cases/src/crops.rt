@@ -1,7 +1,7 @@
 // The levels of two cropped sheets of 3 by 3, one full and one with its centre unset, with the cross and R 2; the canvas is 7 by 7.
 use super::elements::{self, CROSS};
+use super::fault::Result;
 use super::lines;
-use anyhow::Result;
 use run::Record;
 
 const CANVAS: usize = 49;

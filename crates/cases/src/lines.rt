@@ -1,5 +1,6 @@
-// The lines that are printed.
-use anyhow::Result;
+// The lines that are printed. Kept: each in two writes, what is said and then what of it, so that a write that fails leaves what it
+// always left.
+use super::fault::Result;
 
 // A call and its case, and the number that it answered.
 pub fn say(rt: &impl Print, case: &[u8], number: u32) -> Result<()> {
@@ -10,14 +11,16 @@ pub fn say(rt: &impl Print, case: &[u8], number: u32) -> Result<()> {
 
 // What was done, and how many points it lowered.
 pub fn say_count(rt: &impl Print, slice: &str, points: usize) -> Result<()> {
-    println!(rt; "{slice}, points lowered: {points}")?;
+    rt.write_all(slice.as_bytes())?;
+    println!(rt; ", points lowered: {points}")?;
     Ok(())
 }
 
 // A call, and whether its answers to the two sheets of case 10 are the same.
 pub fn say_same(rt: &impl Print, call: &str, same: bool) -> Result<()> {
+    rt.write_all(call.as_bytes())?;
     let found = if same { "the same" } else { "NOT the same" };
-    println!(rt; "{call}, padding bits set and unset: {found}")?;
+    println!(rt; ", padding bits set and unset: {found}")?;
     Ok(())
 }
 

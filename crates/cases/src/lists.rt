@@ -4,8 +4,8 @@
 ghost use Rattle.std.specs.Prelude.{◌≤◌, ◌-◌, length};
 
 use super::asking::{Call, Case};
+use super::fault::Result;
 use super::{lines, rooms};
-use anyhow::Result;
 use basics::Refusal;
 
 // What is printed for a line that is no case.

@@ -9,6 +9,7 @@ mod calls;
 mod counts;
 mod crops;
 mod elements;
+mod fault;
 mod lines;
 mod lists;
 mod padding;
@@ -17,7 +18,7 @@ mod records;
 mod rooms;
 mod sizes;
 
-use anyhow::Result;
+use fault::Result;
 
 // As much of the input as is read.
 const INPUT: usize = 65536;

@@ -4,8 +4,8 @@ ghost use Rattle.std.specs.Prelude.{◌≤◌};
 
 use super::asking::{Call, Case};
 use super::elements::{self, CROSS};
+use super::fault::Result;
 use super::{calls, lines};
-use anyhow::Result;
 use basics::Refusal;
 use run::Record;
 

@@ -1,7 +1,8 @@
 // The worked example of dilating by a map: of a row of seven, points 1 and 5 by sizes 0 and 1, with the origin and its right
 // neighbour. Printed is the byte of the answer, 70 for points 1, 5 and 6.
 use super::elements::{self, PAIR};
-use anyhow::Result;
+use super::fault::Result;
+use super::lines;
 use basics::Refusal;
 
 // The byte that a row's byte gives, with a size at the background points.
@@ -17,10 +18,10 @@ fn dilated(row: u8, elsewhere: u16) -> Result<u8, Refusal> {
 
 // The same byte with the padding bit unset and set, and with small and large sizes at the background points.
 pub fn say_perspective(rt: &impl Print) -> Result<()> {
-    println!(rt; "two points, sizes 0 and 1: {}", dilated(68, 0)?)?;
-    println!(rt;
-        "two points, padding bit set, 65535 elsewhere: {}",
-        dilated(69, 65535)?
-    )?;
-    Ok(())
+    lines::say(rt, b"two points, sizes 0 and 1", u32::from(dilated(68, 0)?))?;
+    lines::say(
+        rt,
+        b"two points, padding bit set, 65535 elsewhere",
+        u32::from(dilated(69, 65535)?),
+    )
 }

@@ -130,7 +130,7 @@ fn fill_reflected(side: usize, bytes: &[u8], out: &mut [u8])
     requires { (is_side side ≡ true) × ((length bytes.now ≡ side * side) × (length out.old ≡ length bytes.now)) }
     ensures { out.new ≡ reflected_bytes side bytes.now }
 {
-    out.copy_from_slice(bytes);
+    basics::copy(bytes, out);
     out.reverse();
 }
 

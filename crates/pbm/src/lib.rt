@@ -48,8 +48,11 @@ fn read_field(file: &[u8], at: usize) -> Option<decimal::Number>
         (λ field. FieldRead file.now at true field.value field.next) }
 {
     let start = skip_white(file, at);
+    if start == at {
+        return None;
+    }
     let number = decimal::read_number(file, start, AMOUNT_END);
-    if start == at || number.next == start {
+    if number.next == start {
         return None;
     }
     Some(number)
@@ -96,7 +99,7 @@ fn copy_cleared(frame: Frame, raster: &[u8], out: &mut [u8])
     let row_bytes = sheet::row_bytes(frame.width);
     let count = frame.height * row_bytes;
     let padding = row_bytes * 8 - frame.width;
-    out[..count].copy_from_slice(&raster[..count]);
+    basics::copy(&raster[..count], &mut out[..count]);
     for row in 0..frame.height {
         let last = row * row_bytes + row_bytes - 1;
         out[last] = out[last] >> padding << padding;

@@ -89,9 +89,9 @@ fn column(upward: bool, width: usize, t: usize) -> usize
 
 // Whether the cell that leads to the column worked `d` turns ago is set.
 #[tactic(auto, unfolding(crate::specs::RowRule::cell_number, crate::specs::Passes::cell_back, crate::specs::Passes::leads_back))]
-fn leads_back(cells: &[[u8; 7]; 7], upward: bool, d: usize) -> bool
+fn leads_back(cells: [[u8; 7]; 7], upward: bool, d: usize) -> bool
     requires { (1 ≤ d) × (d ≤ 3) }
-    ensures { result ≡ leads_back cells.now upward d }
+    ensures { result ≡ leads_back cells upward d }
 {
     let col = if upward { 3 + d } else { 3 - d };
     cells[3][col] != 0
@@ -185,9 +185,9 @@ fn by_own_row(worked: &mut [u16], area: &Area, upward: bool)
     ensures { worked.new ≡ own_columns upward (length worked.old) (leads_back area.now.cells upward 1)
         (leads_back area.now.cells upward 2) (leads_back area.now.cells upward 3) area.now.beyond (length worked.old) worked.old }
 {
-    let one = leads_back(&area.cells, upward, 1);
-    let two = leads_back(&area.cells, upward, 2);
-    let three = leads_back(&area.cells, upward, 3);
+    let one = leads_back(area.cells, upward, 1);
+    let two = leads_back(area.cells, upward, 2);
+    let three = leads_back(area.cells, upward, 3);
     if two || three {
         by_three(worked, upward, one, two, three, area.beyond);
         return;
@@ -215,22 +215,16 @@ fn settle(stored: &mut [u16], worked: &[u16]) -> usize
 // Kept: `upward` is a flag here and below, as it is in `row_rule` of the definitions; a direction has no third.
 // The row rule on a part of the levels, the rows of `area`, at row `row` of the part; and how many points it lowers. It works in
 // `worked`, whatever that holds.
-pub fn row_rule(
-    part: &mut [u16],
-    worked: &mut [u16],
-    area: &Area,
-    row: usize,
-    upward: bool,
-) -> usize
-    requires { (length part.old ≡ area.now.height * area.now.width) × ((row < area.now.height) ×
-        ((area.now.width ≤ longest_side) × ((area.now.height ≤ longest_side) × (area.now.width ≤ length worked.old)))) }
-    ensures { (part.new ≡ row_rule area.now upward row part.old) × (result ≡ points_lowered part.old part.new) }
+pub fn row_rule(part: &mut [u16], worked: &mut [u16], area: Area, row: usize, upward: bool) -> usize
+    requires { (length part.old ≡ area.height * area.width) × ((row < area.height) ×
+        ((area.width ≤ longest_side) × ((area.height ≤ longest_side) × (area.width ≤ length worked.old)))) }
+    ensures { (part.new ≡ row_rule area upward row part.old) × (result ≡ points_lowered part.old part.new) }
 {
     let start = row * area.width;
     let end = start + area.width;
     let worked = &mut worked[..area.width];
-    worked.copy_from_slice(&part[start..end]);
-    by_other_rows(worked, part, area, row, upward);
-    by_own_row(worked, area, upward);
+    basics::copy(&part[start..end], worked);
+    by_other_rows(worked, part, &area, row, upward);
+    by_own_row(worked, &area, upward);
     settle(&mut part[start..end], worked)
 }

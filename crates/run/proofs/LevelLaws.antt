@@ -50,9 +50,13 @@ cropped_above R n level small l = go (leb level (suc R)) refl
         let m = leb-false level (suc R) e in
         lt-ltb (min n R + 1) level (omega arith) ∙ sym (lt-ltb n none (omega arith))
 
-pub read_same : (other level : ℕ) → read_as (record { limit = none; less = 0; other = other }) level ≡ level
+-- with no limit and none less, a level is read as it stands
+pub read_stands : (reading : Reading) (level : ℕ) → reading.limit ≡ none → reading.less ≡ 0 → read_as reading level ≡ level
 unfolding read_as
-read_same other level = sub-zero level
+read_stands reading level p q = rw (p, q) (sub-zero level)
+
+pub read_same : (other level : ℕ) → read_as (record { limit = none; less = 0; other = other }) level ≡ level
+read_same other level = read_stands (record { limit = none; less = 0; other = other }) level refl refl
 
 -- a test as a byte
 pub held_byte : (t : Bool) → bool_byte t ≡ cond t 1 0

@@ -5,7 +5,7 @@ ghost use Rattle.basics.specs.Limits.{longest_side};
 ghost use Rattle.basics.specs.Refusals.{first, number};
 ghost use Rattle.basics.specs.Tables.{table, raster};
 ghost use Rattle.sheet.specs.Sheets.{row_bytes, byte_packed, packed};
-ghost use Rattle.run.specs.Patches.{Canvas, level_in, read_as, held_between};
+ghost use Rattle.run.specs.Patches.{Patch, Canvas, level_in, read_as, held_between};
 ghost use Rattle.run.specs.Pictures.{thresholded, Collects, Thresholds};
 ghost use Rattle.run.specs.Provisional.{view_refusals, provisional_refusals};
 
@@ -15,31 +15,58 @@ use super::sound::Sound;
 use super::{Record, kinds, records};
 use basics::Refusal;
 
-// The levels of a row, each as it is read.
-fn copy_row(levels: &[u16], reading: Reading, out: &mut [u16])
-    requires { length out.old ≡ length levels.now }
-    ensures { out.new ≡ table (length levels.now) (λ i. read_as reading (get_or levels.now i 0)) }
+// The `n` levels from `from` on go to the places from `at` on, each as it is read. Kept, here and in the next: places, and turns
+// counted by hand, of which the compiler makes better loops for narrow rows than of slices (measured).
+fn copy_row(levels: &[u16], from: usize, n: usize, reading: Reading, out: &mut [u16], at: usize)
+    requires { (from + n ≤ length levels.now) × (at + n ≤ length out.old) }
+    ensures { Patch at n (λ i. read_as reading (get_or levels.now (from + i) 0)) out.old out.new }
 {
-    for i in 0..levels.len() {
-        out[i] = reading.read(levels[i]);
+    let mut i = 0;
+    while i < n {
+        let level = reading.read(levels[from + i]);
+        out[at + i] = level;
+        i += 1;
     }
 }
 
-// The frame's part of the levels, each as it is read. Kept: this walk over a frame's rows and those that pack, store, raise and
+// The frame's part of the levels, each as it is read. Kept: this walk over a frame's rows and those that copy, pack, store, raise and
 // count are a loop each; one for all would state by a closure what it does to parts of two slices.
+fn read_rows(levels: &[u16], frame: Frame, reading: Reading, out: &mut [u16])
+    requires { Canvas frame.width frame.height frame.margin levels.now × (length out.old ≡ frame.height * frame.width) }
+    ensures { out.new ≡ raster frame.width frame.height
+        (λ row col. read_as reading (level_in frame.width frame.margin levels.now row col)) }
+{
+    let side = frame.area_width();
+    let mut row = 0;
+    while row < frame.height {
+        let from = (row + frame.margin) * side + frame.margin;
+        copy_row(levels, from, frame.width, reading, out, row * frame.width);
+        row += 1;
+    }
+}
+
+// The frame's part of the levels, as they stand.
+fn copy_rows(levels: &[u16], frame: Frame, out: &mut [u16])
+    requires { Canvas frame.width frame.height frame.margin levels.now × (length out.old ≡ frame.height * frame.width) }
+    ensures { out.new ≡ raster frame.width frame.height (level_in frame.width frame.margin levels.now) }
+{
+    for row in 0..frame.height {
+        let at = row * frame.width;
+        basics::copy(frame.row(levels, row), &mut out[at..at + frame.width]);
+    }
+}
+
+// The frame's part of the levels, each as it is read; a plain erosion's, which are read as they stand, are copied.
 fn copy_frame(levels: &[u16], frame: Frame, reading: Reading, out: &mut [u16])
     requires { Canvas frame.width frame.height frame.margin levels.now × (length out.old ≡ frame.height * frame.width) }
     ensures { out.new ≡ raster frame.width frame.height
         (λ row col. read_as reading (level_in frame.width frame.margin levels.now row col)) }
 {
-    for row in 0..frame.height {
-        let at = row * frame.width;
-        copy_row(
-            frame.row(levels, row),
-            reading,
-            &mut out[at..at + frame.width],
-        );
+    if reading.limit == row::NONE && reading.less == 0 {
+        copy_rows(levels, frame, out);
+        return;
     }
+    read_rows(levels, frame, reading, out);
 }
 
 // Refusals 8, 10 and 11 of a sound record's levels read at a size, with `room` entries lent of `wanted`.

@@ -29,7 +29,7 @@ fn row_in_part(
     row::row_rule(
         &mut levels[start * area.width..],
         worked,
-        &part,
+        part,
         row - start,
         upward,
     )

@@ -14,7 +14,7 @@ returns c =
     let args = c.args in
     let bytes = args.bytes.now in
     let size = c.requires.1.0 in
-    c.reverse.ensures.after ∙ ap reverse c.copy_from_slice.ensures.after
+    c.reverse.ensures.after ∙ ap reverse c.copy.ensures
     ∙ table_is _ (args.side * args.side) 0 (reverse bytes) (length-reverse bytes ∙ size)
     (λ k l. get_or-reverse bytes k 0 (let b : k < length bytes = omega arith in b)
     ∙ ap (λ n. get_or bytes (n - 1 - k) 0) size

@@ -5,7 +5,7 @@ use Rattle.pbm.proofs.copy_cleared.Goals as goal
 
 pub loop-row-init : goal.loop-row-init
 loop-row-init c = rw c.row_bytes-row_bytes.ensures
-    (clearing_start c.requires.raster c.requires.room (rw c.row_bytes-row_bytes.ensures at c.copy_from_slice.ensures.after))
+    (clearing_start c.requires.raster c.requires.room (rw c.row_bytes-row_bytes.ensures at c.copy.ensures))
 
 pub loop-row-preserved : goal.loop-row-preserved
 loop-row-preserved c =

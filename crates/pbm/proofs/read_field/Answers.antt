@@ -2,21 +2,20 @@
 use Rattle.std.proofs.Common.{arith}
 use Rattle.pbm.proofs.HeaderLaws.{field_without_white, field_without_digits, field_found, field_lost, start_within}
 use Rattle.pbm.proofs.read_field.Goals as goal
-use Rattle.pbm.proofs.read_field.Goals.{then-start-at-via-then-start-at, then-start-at-via-else-start-at+then-number-start}
+
+pub returns-then-start-at : goal.returns-then-start-at
+returns-then-start-at c =
+    field_lost c.args.file.now c.args.at
+    (field_without_white c.args.file.now c.args.at _ c.skip_white-start.ensures c.if-start-at.true)
 
 pub read_number-number-requires : goal.read_number-number-requires
 read_number-number-requires c = (start_within c.args.file.now c.args.at _ c.skip_white-start.ensures c.requires, omega arith)
 
-pub returns-then-start-at : goal.returns-then-start-at
-returns-then-start-at c = elim c.then-start-at.branch [
-  | then-start-at-via-then-start-at w ↦
-      field_lost c.args.file.now c.args.at
-      (field_without_white c.args.file.now c.args.at _ c.skip_white-start.ensures w.if-start-at.true)
-  | then-start-at-via-else-start-at+then-number-start w ↦
-      field_lost c.args.file.now c.args.at
-      (field_without_digits c.args.file.now c.args.at _ c.skip_white-start.ensures _ c.read_number-number.ensures.0
-      w.if-start-at.false w.if-number-start.true)
-]
+pub returns-then-number-start : goal.returns-then-number-start
+returns-then-number-start c =
+    field_lost c.args.file.now c.args.at
+    (field_without_digits c.args.file.now c.args.at _ c.skip_white-start.ensures _ c.read_number-number.ensures.0
+    c.if-start-at.false c.if-number-start.true)
 
 pub returns : goal.returns
 returns c =

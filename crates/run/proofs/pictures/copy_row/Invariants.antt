@@ -1,7 +1,11 @@
--- The loop's invariant: the first i levels are copied.
-use Rattle.std.proofs.Common.{◌≡◌, ℕ, ◌<◌, get_or}
-use Rattle.run.specs.Patches.{read_as}
+-- The loop's invariant: the first i entries of the stretch are copied.
+use Rattle.run.specs.Patches.{Patch, read_as}
+use Prim.Native.Nat.{◌+◌, ◌-◌, ◌≤◌}
+use lib.ListN.{get_or}
 use Rattle.run.proofs.pictures.copy_row.Given as goal
 
 abbrev pub invariant-loop-i : goal.invariant-loop-i
-invariant-loop-i l = (k : ℕ) → k < l.i → get_or l.out k 0 ≡ read_as l.reading (get_or l.levels k 0)
+invariant-loop-i l = (l.i ≤ l.n) × Patch l.at l.i (λ j. read_as l.reading (get_or l.levels (l.from + j) 0)) l.initial.out l.out
+
+abbrev pub decreases-loop-i : goal.decreases-loop-i
+decreases-loop-i l = l.n - l.i
