@@ -2,6 +2,7 @@
 -- on, those of what is left stand before those written; and what was read is the value of the run so far, or the limit.
 use Prim.Native.Nat.{ℕ, zero, suc, ◌+◌, ◌-◌, ◌*◌, ◌/◌, ◌%◌, ◌^◌, ◌≤◌, ◌<◌, min}
 use native.Mathlib.Nat.{pow-succ', one-le-pow}
+use native.Mathlib.Decide.{dec_lt}
 use native.Mathlib.Omega.{arith}
 use mathlib.Core.Path.{◌≡◌, refl, sym, ap, ◌∙◌}
 use mathlib.Core.Bool.{cond}
@@ -15,7 +16,7 @@ use Rattle.std.specs.Char.{is_ascii_digit}
 use Rattle.std.specs.List.{prefix_len}
 use Rattle.std.proofs.Common.{Option, None, Some, IfNone, IfSome, unwrap_or}
 use Rattle.decimal.specs.Numbers.{is_digit, value_from, value, digits, digit_run, written}
-use Rattle.decimal.proofs.NumberLaws.{by_tens, digits_one, digits_more, length_one, length_more, value_append}
+use Rattle.decimal.proofs.NumberLaws.{by_tens, digits_one, digits_more, length_one, length_more, digits_some, value_append}
 
 -- counting
 length_between : (k n : ℕ) → 10 ^ k ≤ n → n < 10 * 10 ^ k → length (digits n) ≡ k + 1
@@ -80,6 +81,49 @@ unfolding last_digits
 writing_end n buffer left i out h l =
     let e : i ≡ 0 = omega arith in
     rw e at h ∙ ap (λ k. digits n ++ drop k buffer) (let z : length (digits n) ≡ 0 + length (digits n) = omega arith in z)
+
+-- as many digits are left as there are places before i
+pub record Left (n : ℕ) (buffer : List ℕ) (left i : ℕ) (out : List ℕ) : Type 0 where
+  pub places : i ≡ length (digits left)
+  pub whole : Writing n buffer left i out
+
+pub left_start : (n : ℕ) (buffer : List ℕ) (i : ℕ) → i ≡ length (digits n) → Left n buffer n i buffer
+left_start n buffer i e = record { places = e; whole = writing_start n buffer i e }
+
+module _ {n : ℕ} {buffer : List ℕ} {left i : ℕ} {out : List ℕ} (h : Left n buffer left i out) where
+  left_more : 1 < i → Dec (left < 10) → 10 ≤ left
+  left_more l (yes a) = let one = length_one left a in let e = h.places in absurd (omega arith)
+  left_more l (no a) = omega arith
+
+  pub left_turn : 1 < i → i ≤ length out → (byte : ℕ) → byte ≡ 48 + left % 10
+      → Left n buffer (left / 10) (i - 1) (set out (i - 1) byte)
+  left_turn l m byte e =
+      let more = length_more left (left_more l (dec_lt left 10)) in
+      let p = h.places in
+      record { places = omega arith; whole = writing_turn n buffer left i out h.whole (omega arith) m byte e }
+
+  -- the first digit is what is left
+  left_one : i ≤ 1 → Dec (left < 10) → left < 10
+  left_one l (yes a) = a
+  left_one l (no a) =
+      let more = length_more left (omega arith) in
+      let some = digits_some (left / 10) in
+      let e = h.places in
+      absurd (omega arith)
+
+  pub left_digit : i ≤ 1 → left < 10
+  left_digit l = left_one l (dec_lt left 10)
+
+  pub left_end : i ≤ 1 → 0 < length out → (byte : ℕ) → byte ≡ 48 + left → set out 0 byte ≡ written n 0 buffer
+  left_end l room byte e =
+      let small = left_digit l in
+      let some = digits_some left in
+      let p = h.places in
+      let first : 0 ≡ i - 1 = omega arith in
+      let digit : byte ≡ 48 + left % 10 = omega arith in
+      ap (λ k. set out k byte) first
+      ∙ writing_end n buffer (left / 10) (i - 1) (set out (i - 1) byte)
+      (writing_turn n buffer left i out h.whole (omega arith) (omega arith) byte digit) (omega arith)
 
 -- reading: the bytes up to the first that is no digit are the run
 taken_is : (row : List ℕ) → take (prefix_len is_ascii_digit row) row ≡ digit_run row

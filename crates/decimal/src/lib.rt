@@ -4,10 +4,13 @@
 ghost use Rattle.std.specs.Prelude.{◌≡◌, ◌+◌, ◌<◌, ◌≤◌, min, length, drop};
 ghost use Rattle.decimal.specs.Numbers.{value, digits, digit_run, written};
 
-// How many digits `n` has.
+// How many digits `n` has. Most levels have one, and a test for that spares them the logarithm (measured).
 pub fn digit_count(n: usize) -> usize
     ensures { result ≡ length (digits n) }
 {
+    if n < 10 {
+        return 1;
+    }
     n.checked_ilog10().unwrap_or(0) as usize + 1
 }
 
@@ -20,17 +23,18 @@ fn digit_byte(n: usize) -> u8
     b'0' + n as u8
 }
 
-// Writes the digits of `n` to the front of `out`, the last one first, and gives how many they are.
+// Writes the digits of `n` to the front of `out`, the last one first, and gives how many they are. The first is what is left then.
 pub fn write_number(n: usize, out: &mut [u8]) -> usize
     requires { length (digits n) ≤ length out.old }
     ensures { (result ≡ length (digits n)) × (out.new ≡ written n 0 out.old) }
 {
     let count = digit_count(n);
     let mut left = n;
-    for i in (0..count).rev() {
+    for i in (1..count).rev() {
         out[i] = digit_byte(left % 10);
         left /= 10;
     }
+    out[0] = digit_byte(left);
     count
 }
 

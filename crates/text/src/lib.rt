@@ -11,7 +11,7 @@ pub fn write_bytes(text: &[u8], out: &mut [u8]) -> usize
     requires { length text.now ≤ length out.old }
     ensures { Wrote text.now out.old out.new result }
 {
-    out[..text.len()].copy_from_slice(text);
+    basics::copy(text, &mut out[..text.len()]);
     text.len()
 }
 

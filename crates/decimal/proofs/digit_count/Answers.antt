@@ -1,5 +1,10 @@
+use mathlib.Core.Path.{sym}
+use Rattle.decimal.proofs.NumberLaws.{length_one}
 use Rattle.decimal.proofs.LoopLaws.{count_is}
 use Rattle.decimal.proofs.digit_count.Goals as goal
+
+pub returns-then-n-lt10 : goal.returns-then-n-lt10
+returns-then-n-lt10 c = sym (length_one c.args.n c.if-n-lt10.true)
 
 pub returns : goal.returns
 returns c =
